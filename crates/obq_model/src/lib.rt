@@ -1,0 +1,2 @@
+//! The definitions that every contract cites. No code runs here; a function is a law, its contract.
+#![tactic(auto)]
