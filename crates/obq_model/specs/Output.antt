@@ -1,0 +1,41 @@
+-- The texts that a call writes: the output of a run, and the lines that tell a refusal.
+use Rattle.std.specs.Prelude.{List, [], codes, length, ℕ, ◌++◌, ◌∷◌}
+use Rattle.std.specs.List.{flat_map}
+use Rattle.std.specs.Fmt.{decimal}
+use Rattle.obq_base.specs.declared.acts.Report.{Report}
+
+-- a line's end
+abbrev pub newline : List ℕ
+newline = 10 ∷ []
+
+-- what one site wrote: a line with the site's name and the number of bytes, and the bytes
+abbrev pub site_text : List ℕ → List ℕ → List ℕ
+site_text name bytes = codes "== " ++ (name ++ (codes " " ++ (decimal (length bytes) ++ (codes " ==" ++ (newline ++ (bytes ++ newline))))))
+
+-- how many threads ended by a value, ended by an exception, wait, have spent their turns
+abbrev pub report_line : Report → List ℕ
+report_line r =
+    codes "threads ended " ++ (decimal r.ended ++ (codes " raised " ++ (decimal r.raised ++ (codes " waiting " ++ (decimal r.waiting ++ (codes " spent " ++ (decimal r.spent ++ newline)))))))
+
+-- the output of a run: each site in order, and the threads
+abbrev pub run_text : List (List ℕ × List ℕ) → Report → List ℕ
+run_text sites r = flat_map (λ s. site_text s.0 s.1) sites ++ report_line r
+
+-- the lines that tell why a call did not run
+abbrev pub usage_line : ℕ → List ℕ
+usage_line word = codes "usage: word " ++ (decimal word ++ newline)
+
+abbrev pub too_long_line : List ℕ → List ℕ
+too_long_line name = name ++ (codes ": source too long" ++ newline)
+
+abbrev pub not_yet_line : List ℕ → ℕ → List ℕ
+not_yet_line name token = name ++ (codes ": not yet at token " ++ (decimal token ++ newline))
+
+abbrev pub read_fault_line : ℕ → List ℕ
+read_fault_line file = codes "read fault at file " ++ (decimal file ++ newline)
+
+abbrev pub write_fault_line : List ℕ
+write_fault_line = codes "write fault" ++ newline
+
+abbrev pub no_memory_line : List ℕ
+no_memory_line = codes "no memory" ++ newline

@@ -1,0 +1,4 @@
+pub mod Complete
+pub mod PutHistory
+pub mod PutTexts
+pub mod Told

@@ -1,0 +1,6 @@
+pub mod Ends
+pub mod History
+pub mod Known
+pub mod Pieces
+pub mod Runs
+pub mod Words

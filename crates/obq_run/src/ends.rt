@@ -1,0 +1,45 @@
+//! How a call ends.
+
+ghost use Rattle.std.specs.Prelude.{◌≡◌};
+ghost use Rattle.obq_run.specs.Ends.{status_of};
+
+use crate::journals::Journal;
+
+/// Why a call ended as it did. Words count from 0, the program's name left out; sources and files
+/// from 0 in word order.
+#[derive(Clone, Copy, Debug, PartialEq, Eq)]
+pub enum Cause {
+    Ran,
+    /// The first word that can't stand in its place; a missing word is the number of words.
+    Usage { word: u32 },
+    SourceTooLong { source: u16 },
+    /// The source is of a kind that doesn't run yet; so many of its tokens do.
+    NotYet { source: u16, token: u32 },
+    ReadFault { file: u16 },
+    WriteFault,
+    NoMemory,
+}
+
+/// The end of a call. The journal is the run's where it ran, also where writing then failed; else
+/// it has no entries.
+#[derive(Drop)]
+pub struct End {
+    pub status: u8,
+    pub cause: Cause,
+    pub journal: Journal,
+}
+
+/// The status of a call that ended so, where a run ended with every thread ended by a value.
+pub fn status_for(cause: Cause) -> u8
+    ensures { result ≡ status_of cause }
+{
+    match cause {
+        Cause::Ran => 0,
+        Cause::Usage { word: _ } => 2,
+        Cause::SourceTooLong { source: _ } => 7,
+        Cause::NotYet { source: _, token: _ } => 9,
+        Cause::ReadFault { file: _ } => 4,
+        Cause::WriteFault => 5,
+        Cause::NoMemory => 6,
+    }
+}

@@ -1,0 +1,21 @@
+//! The call that the program makes: it reads the command line and the source, runs it, and writes
+//! what the run wrote or why there was none.
+#![tactic(auto)]
+
+mod ends;
+mod history;
+mod journals;
+mod put_texts;
+mod reading;
+mod texts;
+mod top;
+mod words;
+mod writing;
+
+pub use ends::{Cause, End};
+pub use journals::Journal;
+pub use reading::SOURCE_LIMIT;
+pub use top::{TURNS, obliq};
+
+#[cfg(test)]
+mod tests;
