@@ -4,12 +4,14 @@
 
 mod acts;
 mod bytes;
+mod faults;
 mod memory;
 mod tokens;
 mod trees;
 
 pub use acts::{Act, ActKind, Entry, Report};
 pub use bytes::{Name, Text};
+pub use faults::{LexKind, SourceFault};
 pub use memory::NoMemory;
 pub use tokens::{Token, TokenKind};
 pub use trees::{

@@ -232,9 +232,15 @@ pub struct Link {
 #[derive(Drop)]
 pub enum Suffix {
     /// `(arguments)`
-    Apply { arguments: Items<Expr>, place: u32 },
+    Apply {
+        arguments: Items<Expr>,
+        place: u32,
+    },
     /// `.name`
-    Select { name: Name, place: u32 },
+    Select {
+        name: Name,
+        place: u32,
+    },
     /// `.name(arguments)`
     Invoke {
         name: Name,
@@ -242,7 +248,10 @@ pub enum Suffix {
         place: u32,
     },
     /// `[index]`
-    Index { index: Expr, place: u32 },
+    Index {
+        index: Expr,
+        place: u32,
+    },
 }
 
 /// A test and the block that it leads to: of an `if`, or of an `except`.

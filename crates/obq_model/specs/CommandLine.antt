@@ -26,22 +26,24 @@ path_part word = after_first is_cut word
 abbrev pub is_site_word : List ℕ → Bool
 is_site_word word = nat_lt (position_or_len is_cut word) (length word) && is_site_name (name_part word) && not (length (path_part word) == 0)
 
+abbrev pub is_command : List ℕ → Bool
+is_command word = bytes_eq word (codes "run")
+
 -- behind a site word no word can stand
 abbrev pub bad_behind_site : List (List ℕ) → Option ℕ
 bad_behind_site [] = None
 bad_behind_site (word ∷ words) = Some 2
 
-abbrev pub bad_behind_run : List (List ℕ) → Option ℕ
-bad_behind_run [] = Some 1
-bad_behind_run (word ∷ words) = if is_site_word word then bad_behind_site words else Some 1
+abbrev pub bad_behind_command : List (List ℕ) → Option ℕ
+bad_behind_command [] = Some 1
+bad_behind_command (word ∷ words) = if is_site_word word then bad_behind_site words else Some 1
 
 -- the first word that can't stand in its place; a missing word is the number of words
 abbrev pub bad_word : List (List ℕ) → Option ℕ
 bad_word [] = Some 0
-bad_word (word ∷ words) = if bytes_eq word (codes "run") then bad_behind_run words else Some 0
+bad_word (word ∷ words) = if is_command word then bad_behind_command words else Some 0
 
--- the one site word, of words in form
-abbrev pub site_word : List (List ℕ) → List ℕ
-site_word [] = []
-site_word (command ∷ []) = []
-site_word (command ∷ site ∷ words) = site
+-- the site words
+abbrev pub site_words : List (List ℕ) → List (List ℕ)
+site_words [] = []
+site_words (word ∷ words) = words

@@ -1,4 +1,4 @@
--- A journal: the turn limit of its run, and its entries in order.
+-- A journal as contracts see it: the turn limit of its run, and its entries in order.
 use Rattle.std.specs.Prelude.{ℕ, List}
 use Rattle.obq_base.specs.declared.acts.Entry.{Entry}
 

@@ -3,6 +3,10 @@ use Rattle.std.specs.Prelude.{List, [], codes, length, ℕ, ◌++◌, ◌∷◌}
 use Rattle.std.specs.List.{flat_map}
 use Rattle.std.specs.Fmt.{decimal}
 use Rattle.obq_base.specs.declared.acts.Report.{Report}
+use Rattle.obq_base.specs.declared.faults.LexKind.{LexKind}
+use Rattle.obq_base.specs.declared.faults.LexKind.TheVariants as kind
+use Rattle.obq_base.specs.declared.faults.SourceFault.{SourceFault}
+use Rattle.obq_base.specs.declared.faults.SourceFault.TheVariants as fault
 
 -- a line's end
 abbrev pub newline : List ℕ
@@ -21,7 +25,29 @@ report_line r =
 abbrev pub run_text : List (List ℕ × List ℕ) → Report → List ℕ
 run_text sites r = flat_map (λ s. site_text s.0 s.1) sites ++ report_line r
 
+-- the kind of a lexical fault, as it is told
+abbrev pub kind_text : LexKind → List ℕ
+kind_text kind.Stray = codes "Stray"
+kind_text kind.OpenText = codes "OpenText"
+kind_text kind.LongText = codes "LongText"
+kind_text kind.OpenComment = codes "OpenComment"
+kind_text kind.BadEscape = codes "BadEscape"
+kind_text kind.IntRange = codes "IntRange"
+kind_text kind.Real = codes "Real"
+kind_text kind.NotAscii = codes "NotAscii"
+kind_text kind.TooDeep = codes "TooDeep"
+
 -- the lines that tell why a call did not run
+abbrev pub lexical_line : List ℕ → List ℕ → ℕ → List ℕ
+lexical_line name kind_name place = name ++ (codes ": lexical " ++ (kind_name ++ (codes " at byte " ++ (decimal place ++ newline))))
+
+abbrev pub syntax_line : List ℕ → ℕ → List ℕ
+syntax_line name token = name ++ (codes ": syntax at token " ++ (decimal token ++ newline))
+
+abbrev pub refused_line : List ℕ → SourceFault → List ℕ
+refused_line name (fault.Lexical kind place) = lexical_line name (kind_text kind) place
+refused_line name (fault.Syntax token) = syntax_line name token
+
 abbrev pub usage_line : ℕ → List ℕ
 usage_line word = codes "usage: word " ++ (decimal word ++ newline)
 

@@ -1,71 +1,79 @@
--- The sources that run so far: groups of seven pieces, `wr_putText`, `(`, `stdout`, `,`, a text, `)` and `;`, with white space anywhere
--- between pieces.
-use Rattle.std.specs.Prelude.{Bool, Err, List, None, Ok, Option, Result, Some, [], bytes_eq, codes, drop, if◌then◌else◌, length, nat_le, not, position, slice_index, take, ℕ, ◌&&◌, ◌*◌, ◌+◌, ◌==◌, ◌||◌, ◌≡◌, ◌≢◌, ◌∷◌}
+-- The sources that run so far: their tokens are groups of seven, `wr_putText`, `(`, `stdout`, `,`, a text, `)` and `;`, and the end token.
+use Rattle.std.specs.Prelude.{Bool, Err, List, None, Ok, Option, Result, Some, [], bytes_eq, codes, false, if◌then◌else◌, length, true, ℕ, ◌*◌, ◌+◌, ◌==◌, ◌≡◌, ◌∷◌}
+use Rattle.obq_base.specs.declared.tokens.Token.{Token}
+use Rattle.obq_base.specs.declared.tokens.TokenKind.{TokenKind}
+use Rattle.obq_base.specs.declared.tokens.TokenKind.TheVariants as kind
+use Rattle.obq_model.specs.Words.{sym_close, sym_comma, sym_open, sym_semicolon}
 
-abbrev pub is_space : ℕ → Bool
-is_space b = b == 9 || b == 10 || b == 13 || b == 32
+abbrev pub is_name : List ℕ → TokenKind → Bool
+is_name word (kind.Name name) = bytes_eq name word
+is_name word k = false
 
--- what is left behind white space
-abbrev pub after_space : List ℕ → List ℕ
-after_space [] = []
-after_space (b ∷ bs) = if is_space b then after_space bs else b ∷ bs
+abbrev pub is_row : ℕ → TokenKind → Bool
+is_row row (kind.Symbol s) = s == row
+is_row row k = false
 
--- what is left behind a word, where x begins with it
-abbrev pub after_word : List ℕ → List ℕ → Option (List ℕ)
-after_word word x = if bytes_eq (take (length word) x) word then Some (drop (length word) x) else None
+-- this symbol
+abbrev pub is_symbol : TokenKind → TokenKind → Bool
+is_symbol (kind.Symbol row) k = is_row row k
+is_symbol symbol k = false
 
--- a byte of a text that stands for itself: 32 to 126, and neither the closing mark nor `\`
-abbrev pub is_plain : ℕ → Bool
-is_plain b = nat_le 32 b && nat_le b 126 && not (b == 34) && not (b == 92)
+-- what is left behind a token whose kind passes the test
+abbrev pub behind : (TokenKind → Bool) → List Token → Option (List Token)
+behind test [] = None
+behind test (t ∷ ts) = if test t.kind then Some ts else None
 
--- a text's bytes and what is left behind its closing mark, where y stands behind the opening mark and n plain bytes come first
-abbrev pub closed_text : List ℕ → Option ℕ → Option (List ℕ × List ℕ)
-closed_text y None = None
-closed_text y (Some n) = if slice_index y n == 34 && nat_le n 65536 then Some (take n y, drop (n + 1) y) else None
+abbrev pub text_of : TokenKind → List Token → Option (List ℕ × List Token)
+text_of (kind.Text bytes) ts = Some (bytes, ts)
+text_of k ts = None
 
--- `"`, at most 65,536 plain bytes, and `"`
-abbrev pub text_at : List ℕ → Option (List ℕ × List ℕ)
+-- a text, and what is left behind it
+abbrev pub text_at : List Token → Option (List ℕ × List Token)
 text_at [] = None
-text_at (b ∷ y) = if b == 34 then closed_text y (position (λ c. not (is_plain c)) y) else None
+text_at (t ∷ ts) = text_of t.kind ts
 
--- a word behind white space
-abbrev pub word_at : List ℕ → List ℕ → Option (List ℕ)
-word_at word x = after_word word (after_space x)
-
--- or else: so many whole pieces stand there
-infixl 10 ◌else_pieces◌
-abbrev pub ◌else_pieces◌ : {A : Type 0} → Option A → ℕ → Result A ℕ
-None else_pieces n = Err n
-(Some a) else_pieces n = Ok a
+-- or else: so many tokens stand as they may
+infixl 10 ◌else_tokens◌
+abbrev pub ◌else_tokens◌ : {A : Type 0} → Option A → ℕ → Result A ℕ
+None else_tokens n = Err n
+(Some a) else_tokens n = Ok a
 
 infixl 5 ◌>>=◌
 abbrev pub ◌>>=◌ : {A B : Type 0} → Result A ℕ → (A → Result B ℕ) → Result B ℕ
 (Ok a) >>= f = f a
 (Err n) >>= f = Err n
 
--- the text of one group and what is left behind it, or the number of whole pieces that stand there
-unfoldable pub group_at : List ℕ → Result (List ℕ × List ℕ) ℕ
-group_at x = do
-  call ← word_at (codes "wr_putText") x else_pieces 0
-  open_ ← word_at (codes "(") call else_pieces 1
-  writer ← word_at (codes "stdout") open_ else_pieces 2
-  comma ← word_at (codes ",") writer else_pieces 3
-  text ← text_at (after_space comma) else_pieces 4
-  close ← word_at (codes ")") text.1 else_pieces 5
-  end ← word_at (codes ";") close else_pieces 6
+-- the text of one group and the tokens behind it, or the number of its tokens that stand there
+unfoldable pub group_at : List Token → Result (List ℕ × List Token) ℕ
+group_at ts = do
+  call ← behind (is_name (codes "wr_putText")) ts else_tokens 0
+  open_ ← behind (is_symbol sym_open) call else_tokens 1
+  writer ← behind (is_name (codes "stdout")) open_ else_tokens 2
+  comma ← behind (is_symbol sym_comma) writer else_tokens 3
+  text ← text_at comma else_tokens 4
+  close ← behind (is_symbol sym_close) text.1 else_tokens 5
+  end ← behind (is_symbol sym_semicolon) close else_tokens 6
   Ok (text.0, end)
 
--- the source x begins with groups of these texts, and r is left
-pub data AreGroups : List (List ℕ) → List ℕ → List ℕ → Type 0 where
-  no_group : {x : List ℕ} → AreGroups [] x x
-  group : {t : List ℕ} {ts : List (List ℕ)} {x y r : List ℕ} → group_at x ≡ Ok (t, y) → AreGroups ts y r → AreGroups (t ∷ ts) x r
+-- the tokens begin with groups of these texts, and these are left
+pub data AreGroups : List (List ℕ) → List Token → List Token → Type 0 where
+  no_group : {ts : List Token} → AreGroups [] ts ts
+  group : {text : List ℕ} {texts : List (List ℕ)} {ts us rest : List Token} → group_at ts ≡ Ok (text, us) → AreGroups texts us rest → AreGroups (text ∷ texts) ts rest
 
--- the source is groups of these texts
-abbrev pub IsPutTexts : List ℕ → List (List ℕ) → Type 0
-IsPutTexts source texts = (rest : List ℕ) × AreGroups texts source rest × (after_space rest ≡ [])
+abbrev pub is_end_kind : TokenKind → Bool
+is_end_kind kind.EndOfSource = true
+is_end_kind k = false
 
--- the source isn't groups throughout, and so many whole pieces stand in front
-abbrev pub StopsAfter : List ℕ → ℕ → Type 0
-StopsAfter source pieces =
-    (texts : List (List ℕ)) × (rest : List ℕ) × (n : ℕ) × AreGroups texts source rest × (after_space rest ≢ []) × (group_at rest ≡ Err n)
-        × (pieces ≡ 7 * length texts + n)
+-- the end token stands next, or nothing
+abbrev pub is_end : List Token → Bool
+is_end [] = true
+is_end (t ∷ ts) = is_end_kind t.kind
+
+-- the tokens are groups of these texts, and the end token
+abbrev pub IsPutTexts : List Token → List (List ℕ) → Type 0
+IsPutTexts tokens texts = (rest : List Token) × AreGroups texts tokens rest × (is_end rest ≡ true)
+
+-- the token with this number is the first that differs from those of groups
+abbrev pub StopsAt : List Token → ℕ → Type 0
+StopsAt tokens k =
+    (texts : List (List ℕ)) × (rest : List Token) × (n : ℕ) × AreGroups texts tokens rest × (is_end rest ≡ false) × (group_at rest ≡ Err n) × (k ≡ 7 * length texts + n)

@@ -1,44 +1,111 @@
--- A call on a source in form runs where no count of faults rose.
-use Rattle.std.proofs.Common.{List, None, Option, Some, arith, length, subst, sym, ℕ, ◌<◌, ◌≡◌, ◌≤◌, ◌∙◌}
+-- A call on sources that are accepted is not refused where no count of faults rose.
+use Rattle.std.proofs.Common.{List, Option, Some, [], arith, length, refl, slice_get, subst, suc, zero, ℕ, ◌<◌, ◌≡◌, ◌≤◌, ◌∷◌}
+use Rattle.std.specs.Prelude.{IsSomeAnd}
+use Rattle.obq_base.specs.declared.faults.SourceFault.{SourceFault}
+use Rattle.obq_base.specs.declared.faults.SourceFault.TheVariants.{Lexical, Syntax}
+use Rattle.obq_base.specs.declared.tokens.Token.{Token}
+use Rattle.obq_base.specs.declared.trees.Block.{Block}
+use Rattle.obq_grammar.proofs.Prefixes.{tree_and_fault}
+use Rattle.obq_model.proofs.Uniqueness.{no_fault_of_a_reading, one_reading}
+use Rattle.obq_model.specs.Grammar.{Derives}
+use Rattle.obq_model.specs.Tokens.{IsReading}
+use Rattle.obq_model.specs.PutTexts.{AreGroups, IsPutTexts, StopsAt}
+use Rattle.obq_model.specs.Sources.{AreAccepted, IsAccepted, IsFault, IsFirstRefused, here, later}
 use Rattle.obq_run.specs.declared.ends.Cause.{Cause}
-use Rattle.obq_run.specs.declared.ends.Cause.TheVariants.{NoMemory, NotYet, Ran, ReadFault, SourceTooLong, Usage, WriteFault}
-use Rattle.obq_model.specs.PutTexts.{AreGroups, IsPutTexts, StopsAfter}
-use Rattle.obq_run.specs.Ends.{IfNotYet, IfReadFault, IfTooLong, IsLaterRefusal, IsRanOrWriteFault, OnWriteFault}
-use Rattle.obq_run.specs.Known.{IsIt, WhereTold}
-use Rattle.obq_run.specs.Runs.{Completes, IsNotYetOf}
+use Rattle.obq_run.specs.declared.ends.Cause.TheVariants.{NoMemory, NotYet, Ran, ReadFault, Refused, SourceTooLong, Usage, WriteFault}
+use Rattle.obq_run.specs.Ends.{IfNotYet, IfReadFault, IfRefused, IfTooLong, IsRunFinish, IsRunRefusal, OnWriteFault}
+use Rattle.obq_run.specs.Known.{AreHeld, AreTold, IsIt, WhereTold}
+use Rattle.obq_run.specs.Runs.{AllWithin, IsNotYetOf, IsRefusalOf, NoneRose, RunCompletes}
 use Rattle.obq_run.proofs.PutTexts.{not_both}
 
--- what is told is this
-told_is : (held : Option (List ℕ)) (source : List ℕ) (P : List ℕ → Type 0) → held ≡ Some source → WhereTold held P → P source
-told_is held source P e h = subst (λ o. WhereTold o P) e h
+-- ---- what is told is what was read
 
 same_source : (held : Option (List ℕ)) (source other : List ℕ) → held ≡ Some source → IsIt held other → other ≡ source
 same_source held source other e h = subst (λ o. IsIt o other) e h
 
-stops_not : (source : List ℕ) (texts : List (List ℕ)) (pieces : ℕ) → IsPutTexts source texts → StopsAfter source pieces → ⊥
-stops_not source texts pieces (r, groups, end) (us, s, n, others, more, fault, count) = not_both groups others end more fault
+pub same_sources : (holds : List ℕ → Option (List ℕ)) (limit : ℕ) (paths sources others : List (List ℕ)) → AreTold holds paths sources → AreHeld holds limit paths others → others ≡ sources
+same_sources holds limit [] [] [] told held = refl
+same_sources holds limit (p ∷ ps) (s ∷ ss) (o ∷ os) told held = cons_same o s os ss (same_source (holds p) s o told.0 held.0) (same_sources holds limit ps ss os told.1 held.2)
+  where
+    cons_same : (o s : List ℕ) (os ss : List (List ℕ)) → o ≡ s → os ≡ ss → o ∷ os ≡ s ∷ ss
+    cons_same o s os ss e f = cc
+same_sources holds limit [] (s ∷ ss) others told held = absurd told
+same_sources holds limit (p ∷ ps) [] others told held = absurd told
+same_sources holds limit [] [] (o ∷ os) told held = absurd held
+same_sources holds limit (p ∷ ps) (s ∷ ss) [] told held = absurd held
 
-not_yet_not : (held : Option (List ℕ)) (source : List ℕ) (texts : List (List ℕ)) (limit pieces : ℕ) → held ≡ Some source → IsPutTexts source texts → IsNotYetOf held limit pieces → ⊥
-not_yet_not held source texts limit pieces e form h =
-    stops_not source texts pieces form (subst (λ x. StopsAfter x pieces) (same_source held source h.source e h.told) h.stops)
+-- ---- no count rose, no source is too long
 
-pub refused : (held : Option (List ℕ)) (limit : ℕ) (file_rose output_rose : Type 0) (cause : Cause) → IsLaterRefusal cause
-    → IfReadFault cause (λ file. (file ≡ 0) × file_rose) → IfTooLong cause (λ s. (s ≡ 0) × WhereTold held (λ xs. limit < length xs)) → IfNotYet cause (λ s pieces. (s ≡ 0) × IsNotYetOf held limit pieces)
-    → Completes held limit file_rose output_rose cause
-refused held limit f o Ran refusal read long yet = absurd refusal
-refused held limit f o (Usage word) refusal read long yet = absurd refusal
-refused held limit f o WriteFault refusal read long yet = absurd refusal
-refused held limit f o NoMemory refusal read long yet = λ source texts e form within quiet calm. tt
-refused held limit f o (ReadFault file) refusal read long yet = λ source texts e form within quiet calm. absurd (quiet read.1)
-refused held limit f o (SourceTooLong s) refusal read long yet = λ source texts e form within quiet calm.
-    absurd (let over : limit < length source = told_is held source (λ xs. limit < length xs) e long.1 in omega arith)
-refused held limit f o (NotYet s pieces) refusal read long yet = λ source texts e form within quiet calm. absurd (not_yet_not held source texts limit pieces e form yet.1)
+none_at : (Rises : List ℕ → Type 0) (paths : List (List ℕ)) (k : ℕ) → NoneRose Rises paths → IsSomeAnd (slice_get paths k) Rises → ⊥
+none_at Rises [] k none h = absurd h
+none_at Rises (p ∷ ps) zero none h = none.0 h
+none_at Rises (p ∷ ps) (suc k) none h = none_at Rises ps k none.1 h
 
-pub finished : (held : Option (List ℕ)) (limit : ℕ) (file_rose output_rose : Type 0) (cause : Cause) → IsRanOrWriteFault cause → OnWriteFault cause output_rose → Completes held limit file_rose output_rose cause
-finished held limit f o Ran only fault = λ source texts e form within quiet calm. tt
-finished held limit f o WriteFault only fault = λ source texts e form within quiet calm. absurd (calm fault)
-finished held limit f o (Usage word) only fault = absurd only
-finished held limit f o (SourceTooLong s) only fault = absurd only
-finished held limit f o (NotYet s pieces) only fault = absurd only
-finished held limit f o (ReadFault file) only fault = absurd only
-finished held limit f o NoMemory only fault = absurd only
+too_long_at : (holds : List ℕ → Option (List ℕ)) (limit : ℕ) (paths sources : List (List ℕ)) (k : ℕ) → AreTold holds paths sources → AllWithin limit sources
+    → IsSomeAnd (slice_get paths k) (λ p. WhereTold (holds p) (λ xs. limit < length xs)) → ⊥
+too_long_at holds limit [] sources k told within h = absurd h
+too_long_at holds limit (p ∷ ps) [] k told within h = absurd told
+too_long_at holds limit (p ∷ ps) (s ∷ ss) zero told within h =
+    let over : limit < length s = subst (λ o. WhereTold o (λ xs. limit < length xs)) told.0 h in
+    absurd (let le : length s ≤ limit = within.0 in omega arith)
+too_long_at holds limit (p ∷ ps) (s ∷ ss) (suc k) told within h = too_long_at holds limit ps ss k told.1 within.1 h
+
+-- ---- what is accepted has no fault
+
+not_faulty : (source : List ℕ) (tokens : List Token) (tree : Block) (fault : SourceFault) → IsAccepted source tokens tree → IsFault source fault → ⊥
+not_faulty source tokens tree (Lexical kind place) accepted fault = no_fault_of_a_reading source tokens kind place accepted.reading fault
+not_faulty source tokens tree (Syntax k) accepted (others, reading, fault) =
+    tree_and_fault others tree k (subst (λ ts. Derives ts tree) (one_reading source tokens others accepted.reading reading) accepted.derived) fault
+
+not_refused : {sources : List (List ℕ)} {k : ℕ} {fault : SourceFault} → (trees : List Block) → AreAccepted sources trees → IsFirstRefused sources k fault → ⊥
+not_refused [] accepted (here h) = absurd accepted
+not_refused [] accepted (later one h) = absurd accepted
+not_refused {fault = fault} (tree ∷ trees) accepted (here {source} h) = not_faulty source accepted.0.0 tree fault accepted.0.1 h
+not_refused (tree ∷ trees) accepted (later one h) = not_refused trees accepted.1 h
+
+refusal_not : (holds : List ℕ → Option (List ℕ)) (limit : ℕ) (paths sources : List (List ℕ)) (trees : List Block) (k : ℕ) (fault : SourceFault) → AreTold holds paths sources → AreAccepted sources trees
+    → IsRefusalOf holds limit paths k fault → ⊥
+refusal_not holds limit paths sources trees k fault told accepted h =
+    not_refused trees accepted (subst (λ ss. IsFirstRefused ss k fault) (same_sources holds limit paths sources h.sources told h.held) h.refused)
+
+-- ---- a run
+
+stops_not : {tokens others : List Token} (texts : List (List ℕ)) (k : ℕ) → others ≡ tokens → IsPutTexts tokens texts → StopsAt others k → ⊥
+stops_not {tokens} {others} texts k e (rest, groups, end) (more, left, n, those, other, fault, count) =
+    not_both groups (subst (λ ts. AreGroups more ts left) e those) end other fault
+
+one_of : (x y : List ℕ) → x ∷ [] ≡ y ∷ [] → x ≡ y
+one_of x y e = cc
+
+not_yet_not : (holds : List ℕ → Option (List ℕ)) (limit : ℕ) (paths : List (List ℕ)) (source : List ℕ) (tokens : List Token) (tree : Block) (texts : List (List ℕ)) (k : ℕ)
+    → AreTold holds paths (source ∷ []) → IsAccepted source tokens tree → IsPutTexts tokens texts → IsNotYetOf holds limit paths k → ⊥
+not_yet_not holds limit paths source tokens tree texts k told accepted form h =
+    let is : h.source ≡ source = one_of h.source source (same_sources holds limit paths (source ∷ []) (h.source ∷ []) told h.held) in
+    let reading : IsReading source h.not_yet.tokens = subst (λ s. IsReading s h.not_yet.tokens) is h.not_yet.reading in
+    stops_not texts k (one_reading source h.not_yet.tokens tokens reading accepted.reading) form h.not_yet.stops
+
+pub run_refused : (holds : List ℕ → Option (List ℕ)) (limit : ℕ) (paths : List (List ℕ)) (Rises : List ℕ → Type 0) (output_rose : Type 0) (cause : Cause) → IsRunRefusal cause
+    → IfReadFault cause (λ file. IsSomeAnd (slice_get paths file) Rises) → IfTooLong cause (λ s. IsSomeAnd (slice_get paths s) (λ p. WhereTold (holds p) (λ xs. limit < length xs)))
+    → IfRefused cause (IsRefusalOf holds limit paths) → IfNotYet cause (λ s k. (s ≡ 0) × IsNotYetOf holds limit paths k) → RunCompletes holds limit paths Rises output_rose cause
+run_refused holds limit paths Rises out NoMemory only read long faulty yet = λ source tokens tree texts told within accepted form none calm. tt
+run_refused holds limit paths Rises out (ReadFault file) only read long faulty yet = λ source tokens tree texts told within accepted form none calm. absurd (none_at Rises paths file none read)
+run_refused holds limit paths Rises out (SourceTooLong s) only read long faulty yet =
+    λ source tokens tree texts told within accepted form none calm. absurd (too_long_at holds limit paths (source ∷ []) s told (within, tt) long)
+run_refused holds limit paths Rises out (Refused s fault) only read long faulty yet =
+    λ source tokens tree texts told within accepted form none calm. absurd (refusal_not holds limit paths (source ∷ []) (tree ∷ []) s fault told ((tokens, accepted), tt) faulty)
+run_refused holds limit paths Rises out (NotYet s k) only read long faulty yet =
+    λ source tokens tree texts told within accepted form none calm. absurd (not_yet_not holds limit paths source tokens tree texts k told accepted form yet.1)
+run_refused holds limit paths Rises out Ran only read long faulty yet = absurd only
+run_refused holds limit paths Rises out (Usage word) only read long faulty yet = absurd only
+run_refused holds limit paths Rises out WriteFault only read long faulty yet = absurd only
+
+pub run_finished : (holds : List ℕ → Option (List ℕ)) (limit : ℕ) (paths : List (List ℕ)) (Rises : List ℕ → Type 0) (output_rose : Type 0) (cause : Cause) → IsRunFinish cause → OnWriteFault cause output_rose
+    → RunCompletes holds limit paths Rises output_rose cause
+run_finished holds limit paths Rises out Ran only fault = λ source tokens tree texts told within accepted form none calm. tt
+run_finished holds limit paths Rises out WriteFault only fault = λ source tokens tree texts told within accepted form none calm. absurd (calm fault)
+run_finished holds limit paths Rises out (Usage word) only fault = absurd only
+run_finished holds limit paths Rises out (SourceTooLong s) only fault = absurd only
+run_finished holds limit paths Rises out (Refused s f) only fault = absurd only
+run_finished holds limit paths Rises out (NotYet s k) only fault = absurd only
+run_finished holds limit paths Rises out (ReadFault file) only fault = absurd only
+run_finished holds limit paths Rises out NoMemory only fault = absurd only

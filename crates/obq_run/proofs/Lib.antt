@@ -1,4 +1,7 @@
 pub mod Complete
+pub mod Held
+pub mod Printed
 pub mod PutHistory
 pub mod PutTexts
 pub mod Told
+pub mod Unruns

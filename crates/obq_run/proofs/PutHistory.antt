@@ -1,101 +1,95 @@
--- The journal of a source that writes texts replays to a configuration in which its thread has ended.
-use Rattle.std.proofs.Common.{suc, zero, Bool, List, None, Option, Some, [], false, true, cond, length, ltb, le-ltb, refl, ap, ap₂, sym, subst, ◌∙◌, arith, ℕ, ◌*◌, ◌+◌, ◌++◌, ◌≤◌, ◌<◌, ◌≡◌, ◌∷◌, append_assoc}
-use Rattle.std.proofs.lemmas.List.{append-nil}
+-- A source that only writes texts has the journal that the run makes.
+use Rattle.std.proofs.Common.{List, [], ap, ap₂, arith, codes, length, map, refl, subst, sym, ℕ, ◌*◌, ◌+◌, ◌≡◌, ◌≤◌, ◌∙◌, ◌∷◌}
 use Rattle.std.specs.List.{flat_map}
-use Rattle.obq_base.specs.declared.acts.Entry.{Entry}
-use Rattle.obq_model.specs.Machine.{Config, Empty, Gave, Going, Life, Okay, Term, Then, opening, source_term, texts_term}
-use Rattle.obq_model.specs.Replay.{IsOver, TakeTurns, replay, replay_from, take_entry}
-use Rattle.obq_model.specs.PutTexts.{IsPutTexts}
+use Rattle.obq_base.specs.declared.tokens.Token.{Token}
+use Rattle.obq_base.specs.declared.tokens.TokenKind.TheVariants as kind
+use Rattle.obq_base.specs.declared.trees.Block.{Block}
+use Rattle.obq_base.specs.View.{block_tree}
+use Rattle.obq_laws.proofs.Printing.{joined_texts, print_turns_enough, prints_texts}
+use Rattle.obq_laws.specs.Printing.{Print, joined_after, later_entries, print_entries, print_turns, printed_config, printing}
+use Rattle.obq_model.proofs.Uniqueness.{ended}
+use Rattle.obq_model.proofs.Widths.{reading_width, width_of-cons}
+use Rattle.obq_model.specs.Grammar.{Derives, IsBlock}
+use Rattle.obq_model.specs.Nodes.{block, place, token}
+use Rattle.obq_model.specs.PutTexts.{AreGroups, IsPutTexts, group, no_group}
+use Rattle.obq_model.specs.Replay.{TakeTurns, replay}
+use Rattle.obq_model.specs.Tokens.{IsReading}
+use Rattle.obq_model.specs.Widths.{width_of}
+use Rattle.obq_run.specs.History as history
 use Rattle.obq_run.specs.Runs.{IsEndOf, one_ended}
-use Rattle.obq_run.specs.History.{end_after, entries_of, later_entries, put_after}
+use Rattle.obq_run.proofs.Printed.{end_alone, ended_rest, group_is, groups_print, item_of, print_of, texts_joined, tree_is}
+use Rattle.obq_run.proofs.PutTexts.{IsGroup, group_tokens}
 
--- the term behind a text, with these texts to come
-abbrev behind_text : List (List ℕ) → Term
-behind_text [] = Okay
-behind_text (t ∷ ts) = Then Okay (texts_term 0 t ts)
+-- ---- the journal that the run makes is that of the law
 
--- one thread and one writer
-abbrev alone : List ℕ → Life → ℕ → Config
-alone bytes life used = record { writers = bytes ∷ []; threads = record { life = life; used = used } ∷ [] }
+later_same : (ps : List Print) → later_entries ps ≡ history.later_entries (map (λ p. p.text) ps)
+later_same [] = refl
+later_same (p ∷ ps) = ap (λ es. history.put_after 1 ∷ es) (later_same ps)
 
-abbrev joined : List (List ℕ) → List ℕ
-joined texts = flat_map (λ t. t) texts
+entries_same : (ps : List Print) → print_entries ps ≡ history.entries_of (map (λ p. p.text) ps)
+entries_same [] = refl
+entries_same (p ∷ ps) = ap (λ es. history.put_after 0 ∷ es) (later_same ps)
 
--- the end of the thread, behind so many pure steps that lead to `ok`
-end_now : (turns : ℕ) (bytes : List ℕ) (used : ℕ) → used + 0 + 1 ≤ turns → take_entry turns (alone bytes (Going Okay) used) (end_after 0) ≡ Some (alone bytes Gave (used + 0 + 1))
-end_now turns bytes used le = rw (le-ltb turns (used + 0 + 1) le) refl
+-- ---- the turns that it takes
 
-end_of_empty : (turns : ℕ) (bytes : List ℕ) → 0 + 1 + 1 ≤ turns → take_entry turns (alone bytes (Going Empty) 0) (end_after 1) ≡ Some (alone bytes Gave (0 + 1 + 1))
-end_of_empty turns bytes le = rw (le-ltb turns (0 + 1 + 1) le) refl
+length-map-text : (ps : List Print) → length (map (λ p. p.text) ps) ≡ length ps
+length-map-text [] = refl
+length-map-text (p ∷ ps) = omega (arith, length-map-text ps)
 
--- a first text, and one behind another
-first_put : (turns : ℕ) (bytes t : List ℕ) (ts : List (List ℕ)) → 0 + 0 + 1 ≤ turns → take_entry turns (alone bytes (Going (texts_term 0 t ts)) 0) (put_after 0) ≡ Some (alone (bytes ++ t) (Going (behind_text ts)) (0 + 0 + 1))
-first_put turns bytes t [] le = rw (le-ltb turns (0 + 0 + 1) le) refl
-first_put turns bytes t (u ∷ us) le = rw (le-ltb turns (0 + 0 + 1) le) refl
+-- ---- a group takes at least 22 bytes of its source
 
-next_put : (turns : ℕ) (bytes : List ℕ) (used : ℕ) (t : List ℕ) (ts : List (List ℕ)) → used + 1 + 1 ≤ turns
-    → take_entry turns (alone bytes (Going (behind_text (t ∷ ts))) used) (put_after 1) ≡ Some (alone (bytes ++ t) (Going (behind_text ts)) (used + 1 + 1))
-next_put turns bytes used t [] le = rw (le-ltb turns (used + 1 + 1) le) refl
-next_put turns bytes used t (u ∷ us) le = rw (le-ltb turns (used + 1 + 1) le) refl
+group_width : (ts us : List Token) (bytes : List ℕ) → IsGroup ts bytes us → 22 + width_of us ≤ width_of ts
+group_width ts us bytes g =
+    let p = print_of g in
+    let t1 = token (kind.Name (codes "wr_putText")) p.name_place in
+    let t2 = token (kind.Symbol 2) p.call_place in
+    let t3 = token (kind.Name (codes "stdout")) p.stdout_place in
+    let t4 = token (kind.Symbol 6) g.comma.place in
+    let t5 = token (kind.Text bytes) p.text_place in
+    let t6 = token (kind.Symbol 3) g.close.place in
+    let t7 = token (kind.Symbol 11) g.end.place in
+    omega (
+      arith,
+      ap width_of (group_is g),
+      width_of-cons t1 (t2 ∷ t3 ∷ t4 ∷ t5 ∷ t6 ∷ t7 ∷ us),
+      width_of-cons t2 (t3 ∷ t4 ∷ t5 ∷ t6 ∷ t7 ∷ us),
+      width_of-cons t3 (t4 ∷ t5 ∷ t6 ∷ t7 ∷ us),
+      width_of-cons t4 (t5 ∷ t6 ∷ t7 ∷ us),
+      width_of-cons t5 (t6 ∷ t7 ∷ us),
+      width_of-cons t6 (t7 ∷ us),
+      width_of-cons t7 us,
+    )
 
--- one entry, and then the others
-entry_then : (turns : ℕ) (c d : Config) (e : Entry) (es : List Entry) → take_entry turns c e ≡ Some d → replay_from turns c (e ∷ es) ≡ replay_from turns d es
-entry_then turns c d e es one = rw (one, replay_from) refl
+groups_width : {texts : List (List ℕ)} {ts rest : List Token} → AreGroups texts ts rest → 22 * length texts + width_of rest ≤ width_of ts
+groups_width no_group = omega arith
+groups_width (group {text} {texts} {ts} {us} {rest} e more) = omega (arith, group_width ts us text (group_tokens ts text us e), groups_width more)
 
-later : (turns : ℕ) (bytes : List ℕ) (used : ℕ) (ts : List (List ℕ)) → used + (2 * length ts + 1) ≤ turns
-    → replay_from turns (alone bytes (Going (behind_text ts)) used) (later_entries ts) ≡ Some (alone (bytes ++ joined ts) Gave (used + (2 * length ts + 1)))
-later turns bytes used [] le =
-    let fits : used + 0 + 1 ≤ turns = omega arith in
-    entry_then turns (alone bytes (Going Okay) used) (alone bytes Gave (used + 0 + 1)) (end_after 0) [] (end_now turns bytes used fits) ∙ ap₂ (λ b n. Some (alone b Gave n)) (sym (append-nil bytes)) (omega arith)
-later turns bytes used (t ∷ ts) le =
-    let fits : used + 1 + 1 ≤ turns = omega arith in
-    let rest : used + 1 + 1 + (2 * length ts + 1) ≤ turns = omega arith in
-    entry_then turns (alone bytes (Going (behind_text (t ∷ ts))) used) (alone (bytes ++ t) (Going (behind_text ts)) (used + 1 + 1)) (put_after 1) (later_entries ts) (next_put turns bytes used t ts fits) ∙ (later turns (bytes ++ t) (used + 1 + 1) ts rest
-        ∙ ap₂ (λ b n. Some (alone b Gave n)) (append_assoc bytes t (joined ts)) (omega arith))
+-- ---- the run
 
--- the turns that the thread of a source takes
-abbrev pub turns_of : List (List ℕ) → ℕ
-turns_of [] = 2
-turns_of (t ∷ ts) = 2 * length ts + 2
-
--- how the run of a source ends
-abbrev pub ended : List (List ℕ) → Config
-ended texts = alone (joined texts) Gave (turns_of texts)
-
--- the journal replays to that end
-pub history : (turns : ℕ) (texts : List (List ℕ)) → 2 * length texts + 2 ≤ turns → replay (source_term 0 texts ∷ []) (record { turns = turns; entries = entries_of texts }) ≡ Some (ended texts)
-history turns [] le =
-    let fits : 0 + 1 + 1 ≤ turns = omega arith in
-    entry_then turns (alone [] (Going Empty) 0) (alone [] Gave (0 + 1 + 1)) (end_after 1) [] (end_of_empty turns [] fits)
-history turns (t ∷ ts) le =
-    let fits : 0 + 0 + 1 ≤ turns = omega arith in
-    let rest : 0 + 0 + 1 + (2 * length ts + 1) ≤ turns = omega arith in
-    entry_then turns (alone [] (Going (texts_term 0 t ts)) 0) (alone t (Going (behind_text ts)) (0 + 0 + 1)) (put_after 0) (later_entries ts) (first_put turns [] t ts fits)
-        ∙ (later turns t (0 + 0 + 1) ts rest ∙ ap (λ n. Some (alone (t ++ joined ts) Gave n)) (omega arith))
-
--- each entry takes a turn
-later_take_turns : (ts : List (List ℕ)) → TakeTurns (later_entries ts)
-later_take_turns [] = (λ (h : 0 + 1 ≡ 0). absurd (omega arith), tt)
-later_take_turns (t ∷ ts) = (λ (h : 1 + 1 ≡ 0). absurd (omega arith), later_take_turns ts)
-
-take_turns : (ts : List (List ℕ)) → TakeTurns (entries_of ts)
-take_turns [] = (λ (h : 1 + 1 ≡ 0). absurd (omega arith), tt)
-take_turns (t ∷ ts) = (λ (h : 0 + 1 ≡ 0). absurd (omega arith), later_take_turns ts)
-
--- nothing can go on behind the end
-over : (turns : ℕ) (texts : List (List ℕ)) → IsOver turns (ended texts)
-over turns texts zero = refl
-over turns texts (suc t) = refl
-
--- a source that only writes texts runs to its end, where the limit leaves it a turn for each step
-pub end_of : (source : List ℕ) (limit turns : ℕ) (texts : List (List ℕ)) → IsPutTexts source texts → length source ≤ limit → 2 * length texts + 2 ≤ turns
-    → IsEndOf (Some source) limit turns (record { turns = turns; entries = entries_of texts }) (joined texts) one_ended
-end_of source limit turns texts form within fits = record {
-  source = source;
-  told = refl;
-  within = within;
-  last = ended texts;
-  history = record { texts = texts; form = form; limit = refl; replays = history turns texts fits; each = take_turns texts; ended = refl; over = over turns texts };
-  written = refl;
-  reported = refl;
-}
+-- a source that only writes texts ran to its end, with the journal of its texts
+pub end_of : (source : List ℕ) (tokens : List Token) (texts : List (List ℕ)) → IsReading source tokens → IsPutTexts tokens texts → length source ≤ 1048576
+    → IsEndOf (source ∷ []) 100000 (record { turns = 100000; entries = history.entries_of texts }) (flat_map (λ t. t) texts ∷ []) one_ended
+end_of source tokens texts is_read (rest, groups, end) within =
+    let prints = groups_print groups in
+    let ps = prints.prints in
+    let last : (p : ℕ) × (rest ≡ token kind.EndOfSource p ∷ []) = end_alone rest end (ended_rest groups (ended source tokens is_read)) in
+    let tree : Block = block (map item_of ps) (place tokens) in
+    let derived : Derives tokens tree = (last.0, subst (λ r. IsBlock tree tokens r) last.1 prints.block) in
+    let trees : map block_tree (tree ∷ []) ≡ printing ps (place tokens) = ap (λ t. t ∷ []) (tree_is ps (place tokens)) in
+    let entries : print_entries ps ≡ history.entries_of texts = entries_same ps ∙ ap history.entries_of prints.texts_are in
+    let bytes : joined_after [] ps ≡ flat_map (λ t. t) texts = joined_texts ps ∙ (texts_joined ps ∙ ap (flat_map (λ t. t)) prints.texts_are) in
+    let count : length texts ≡ length ps = ap length (sym prints.texts_are) ∙ length-map-text ps in
+    let fits : print_turns ps ≤ 100000 = omega (arith, print_turns_enough ps, count, groups_width groups, reading_width source tokens is_read) in
+    let run = prints_texts ps (place tokens) 100000 fits in
+    record {
+      trees = tree ∷ [];
+      accepted = ((tokens, record { reading = is_read; derived = derived }), tt);
+      last = printed_config (joined_after [] ps) (print_turns ps);
+      limit = refl;
+      replays = ap₂ (λ ts es. replay ts 100000 es) trees (sym entries) ∙ run.0;
+      each = subst TakeTurns entries run.1;
+      returned = tt;
+      over = run.2;
+      written = run.4 ∙ ap (λ b. b ∷ []) bytes;
+      reported = run.5;
+    }

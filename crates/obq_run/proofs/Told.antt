@@ -1,5 +1,5 @@
 -- What several reads and writes in a row do, where bytes are told.
-use Rattle.std.proofs.Common.{ℕ, ◌≡◌, ◌+◌, ◌-◌, ◌≤◌, ◌<◌, ◌^◌, min, List, [], ◌∷◌, ◌++◌, length, take, drop, Option, None, Some, String, refl, ap, ap₂, sym, subst, ◌∙◌, arith, append_assoc, length-append}
+use Rattle.std.proofs.Common.{ℕ, ◌≡◌, ◌+◌, ◌-◌, ◌≤◌, ◌<◌, List, [], ◌++◌, length, take, drop, Option, None, Some, ap, ap₂, sym, subst, ◌∙◌, arith, append_assoc, length-append}
 use Rattle.std.proofs.lemmas.List.{append-nil, take-append-le}
 use Rattle.std.proofs.Math.Seq.{take-add, take-append_seam, drop-append_seam}
 use Rattle.std.proofs.lemmas.Grind.{common_steps}
@@ -56,8 +56,8 @@ rest_is at xs = grind (arith, common_steps)
 take_into : (front piece behind : List ℕ) (k : ℕ) → k ≤ length piece → take (length front + k) (front ++ (piece ++ behind)) ≡ front ++ take k piece
 take_into front piece behind k fits =
     take-add (length front) k (front ++ (piece ++ behind))
-        ∙ ap₂ (λ a b. a ++ take k b) (take-append_seam front (piece ++ behind)) (drop-append_seam front (piece ++ behind))
-        ∙ ap (λ a. front ++ a) (take-append-le k piece behind fits)
+    ∙ ap₂ (λ a b. a ++ take k b) (take-append_seam front (piece ++ behind)) (drop-append_seam front (piece ++ behind))
+    ∙ ap (λ a. front ++ a) (take-append-le k piece behind fits)
 
 -- what was written whole, and then a prefix of the next piece, is a prefix of them and whatever comes behind
 pub prefix_behind : (a b c : Option (List ℕ)) (front piece behind : List ℕ) → Appends a b front → GetsPrefix b c piece → GetsPrefix a c (front ++ (piece ++ behind))

@@ -1,137 +1,192 @@
 -- Words on the cause of an end.
-use Rattle.std.specs.Prelude.{List, [], ℕ, ⊤}
-use Rattle.obq_model.specs.Output.{no_memory_line, not_yet_line, read_fault_line, too_long_line, usage_line, write_fault_line}
+use Rattle.std.specs.Prelude.{List, [], slice_index_or, ℕ, ⊤}
+use Rattle.obq_base.specs.declared.faults.SourceFault.{SourceFault}
+use Rattle.obq_model.specs.Output.{no_memory_line, not_yet_line, read_fault_line, refused_line, too_long_line, usage_line, write_fault_line}
+use Rattle.obq_run.specs.declared.ends.Cause.{Cause}
+use Rattle.obq_run.specs.declared.ends.Cause.TheVariants.{NoMemory, NotYet, Ran, ReadFault, Refused, SourceTooLong, Usage, WriteFault}
 use Rattle.obq_run.specs.declared.reading.Unread.{Unread}
 use Rattle.obq_run.specs.declared.reading.Unread.TheVariants as unread
-use Rattle.obq_run.specs.declared.ends.Cause.{Cause}
-use Rattle.obq_run.specs.declared.ends.Cause.TheVariants.{NoMemory, NotYet, Ran, ReadFault, SourceTooLong, Usage, WriteFault}
+use Rattle.obq_run.specs.declared.reading.Stopped.{Stopped}
+use Rattle.obq_run.specs.declared.run.Unrun.{Unrun}
+use Rattle.obq_run.specs.declared.run.Unrun.TheVariants as unrun
 
+-- the status of a call that ended so, where a run ended with every thread ended by a value
 abbrev pub status_of : Cause → ℕ
 status_of Ran = 0
 status_of (Usage word) = 2
 status_of (SourceTooLong source) = 7
+status_of (Refused source fault) = 3
 status_of (NotYet source token) = 9
 status_of (ReadFault file) = 4
 status_of WriteFault = 5
 status_of NoMemory = 6
 
--- the line that tells the cause of a call on a site of this name; nothing where it ran
-abbrev pub line_of : List ℕ → Cause → List ℕ
-line_of name Ran = []
-line_of name (Usage word) = usage_line word
-line_of name (SourceTooLong source) = too_long_line name
-line_of name (NotYet source token) = not_yet_line name token
-line_of name (ReadFault file) = read_fault_line file
-line_of name WriteFault = write_fault_line
-line_of name NoMemory = no_memory_line
+-- the line that tells the cause of a call on sites of these names; nothing where it ran
+abbrev pub line_of : List (List ℕ) → Cause → List ℕ
+line_of names Ran = []
+line_of names (Usage word) = usage_line word
+line_of names (SourceTooLong source) = too_long_line (slice_index_or names source [])
+line_of names (Refused source fault) = refused_line (slice_index_or names source []) fault
+line_of names (NotYet source token) = not_yet_line (slice_index_or names source []) token
+line_of names (ReadFault file) = read_fault_line file
+line_of names WriteFault = write_fault_line
+line_of names NoMemory = no_memory_line
 
 -- the call ended before it wrote
 abbrev pub IsRefusal : Cause → Type 0
 IsRefusal Ran = ⊥
 IsRefusal (Usage word) = ⊤
 IsRefusal (SourceTooLong source) = ⊤
+IsRefusal (Refused source fault) = ⊤
 IsRefusal (NotYet source token) = ⊤
 IsRefusal (ReadFault file) = ⊤
 IsRefusal WriteFault = ⊥
 IsRefusal NoMemory = ⊤
 
--- the words were refused with this number, or were in form, as P says of either
+-- the words were refused with this number, or were in form, as P and Q say
 abbrev pub MatchUsage : Cause → (ℕ → Type 0) → Type 0 → Type 0
-MatchUsage (Usage word) P Q = P word
 MatchUsage Ran P Q = Q
+MatchUsage (Usage word) P Q = P word
 MatchUsage (SourceTooLong source) P Q = Q
+MatchUsage (Refused source fault) P Q = Q
 MatchUsage (NotYet source token) P Q = Q
 MatchUsage (ReadFault file) P Q = Q
 MatchUsage WriteFault P Q = Q
 MatchUsage NoMemory P Q = Q
 
+-- P holds of the source that is too long
 abbrev pub IfTooLong : Cause → (ℕ → Type 0) → Type 0
-IfTooLong (SourceTooLong source) P = P source
 IfTooLong Ran P = ⊤
 IfTooLong (Usage word) P = ⊤
+IfTooLong (SourceTooLong source) P = P source
+IfTooLong (Refused source fault) P = ⊤
 IfTooLong (NotYet source token) P = ⊤
 IfTooLong (ReadFault file) P = ⊤
 IfTooLong WriteFault P = ⊤
 IfTooLong NoMemory P = ⊤
 
+-- P holds of the source that is refused, and of its fault
+abbrev pub IfRefused : Cause → (ℕ → SourceFault → Type 0) → Type 0
+IfRefused Ran P = ⊤
+IfRefused (Usage word) P = ⊤
+IfRefused (SourceTooLong source) P = ⊤
+IfRefused (Refused source fault) P = P source fault
+IfRefused (NotYet source token) P = ⊤
+IfRefused (ReadFault file) P = ⊤
+IfRefused WriteFault P = ⊤
+IfRefused NoMemory P = ⊤
+
+-- P holds of the source that doesn't run yet, and of the token
 abbrev pub IfNotYet : Cause → (ℕ → ℕ → Type 0) → Type 0
-IfNotYet (NotYet source token) P = P source token
 IfNotYet Ran P = ⊤
 IfNotYet (Usage word) P = ⊤
 IfNotYet (SourceTooLong source) P = ⊤
+IfNotYet (Refused source fault) P = ⊤
+IfNotYet (NotYet source token) P = P source token
 IfNotYet (ReadFault file) P = ⊤
 IfNotYet WriteFault P = ⊤
 IfNotYet NoMemory P = ⊤
 
+-- P holds of the file that wasn't read
 abbrev pub IfReadFault : Cause → (ℕ → Type 0) → Type 0
-IfReadFault (ReadFault file) P = P file
 IfReadFault Ran P = ⊤
 IfReadFault (Usage word) P = ⊤
 IfReadFault (SourceTooLong source) P = ⊤
+IfReadFault (Refused source fault) P = ⊤
 IfReadFault (NotYet source token) P = ⊤
+IfReadFault (ReadFault file) P = P file
 IfReadFault WriteFault P = ⊤
 IfReadFault NoMemory P = ⊤
 
+-- P holds where writing failed
 abbrev pub OnWriteFault : Cause → Type 0 → Type 0
-OnWriteFault WriteFault P = P
 OnWriteFault Ran P = ⊤
 OnWriteFault (Usage word) P = ⊤
 OnWriteFault (SourceTooLong source) P = ⊤
+OnWriteFault (Refused source fault) P = ⊤
 OnWriteFault (NotYet source token) P = ⊤
 OnWriteFault (ReadFault file) P = ⊤
+OnWriteFault WriteFault P = P
 OnWriteFault NoMemory P = ⊤
 
+-- P holds where it ran
 abbrev pub OnRan : Cause → Type 0 → Type 0
 OnRan Ran P = P
 OnRan (Usage word) P = ⊤
 OnRan (SourceTooLong source) P = ⊤
+OnRan (Refused source fault) P = ⊤
 OnRan (NotYet source token) P = ⊤
 OnRan (ReadFault file) P = ⊤
 OnRan WriteFault P = ⊤
 OnRan NoMemory P = ⊤
 
--- the call ended after it had read the words, and before it wrote
-abbrev pub IsLaterRefusal : Cause → Type 0
-IsLaterRefusal Ran = ⊥
-IsLaterRefusal (Usage word) = ⊥
-IsLaterRefusal (SourceTooLong source) = ⊤
-IsLaterRefusal (NotYet source token) = ⊤
-IsLaterRefusal (ReadFault file) = ⊤
-IsLaterRefusal WriteFault = ⊥
-IsLaterRefusal NoMemory = ⊤
+-- the end of a run of words in form
+abbrev pub IsRunEnd : Cause → Type 0
+IsRunEnd Ran = ⊤
+IsRunEnd (Usage word) = ⊥
+IsRunEnd (SourceTooLong source) = ⊤
+IsRunEnd (Refused source fault) = ⊤
+IsRunEnd (NotYet source token) = ⊤
+IsRunEnd (ReadFault file) = ⊤
+IsRunEnd WriteFault = ⊤
+IsRunEnd NoMemory = ⊤
 
--- the source does not run yet, or no memory was left
-abbrev pub IsNotYetOrNoMemory : Cause → Type 0
-IsNotYetOrNoMemory Ran = ⊥
-IsNotYetOrNoMemory (Usage word) = ⊥
-IsNotYetOrNoMemory (SourceTooLong source) = ⊥
-IsNotYetOrNoMemory (NotYet source token) = ⊤
-IsNotYetOrNoMemory (ReadFault file) = ⊥
-IsNotYetOrNoMemory WriteFault = ⊥
-IsNotYetOrNoMemory NoMemory = ⊤
-
--- it ran, and was written whole or not
-abbrev pub IsRanOrWriteFault : Cause → Type 0
-IsRanOrWriteFault Ran = ⊤
-IsRanOrWriteFault (Usage word) = ⊥
-IsRanOrWriteFault (SourceTooLong source) = ⊥
-IsRanOrWriteFault (NotYet source token) = ⊥
-IsRanOrWriteFault (ReadFault file) = ⊥
-IsRanOrWriteFault WriteFault = ⊤
-IsRanOrWriteFault NoMemory = ⊥
+-- a refusal of a run of words in form
+abbrev pub IsRunRefusal : Cause → Type 0
+IsRunRefusal Ran = ⊥
+IsRunRefusal (Usage word) = ⊥
+IsRunRefusal (SourceTooLong source) = ⊤
+IsRunRefusal (Refused source fault) = ⊤
+IsRunRefusal (NotYet source token) = ⊤
+IsRunRefusal (ReadFault file) = ⊤
+IsRunRefusal WriteFault = ⊥
+IsRunRefusal NoMemory = ⊤
 
 -- it ran, or no memory was left
 abbrev pub IsRanOrNoMemory : Cause → Type 0
 IsRanOrNoMemory Ran = ⊤
-IsRanOrNoMemory NoMemory = ⊤
 IsRanOrNoMemory (Usage word) = ⊥
 IsRanOrNoMemory (SourceTooLong source) = ⊥
+IsRanOrNoMemory (Refused source fault) = ⊥
 IsRanOrNoMemory (NotYet source token) = ⊥
 IsRanOrNoMemory (ReadFault file) = ⊥
 IsRanOrNoMemory WriteFault = ⊥
+IsRanOrNoMemory NoMemory = ⊤
 
 -- a file wasn't read because of a fault, or because it is too long, as P and Q say; for want of memory anything may hold
 abbrev pub MatchUnread : Unread → Type 0 → Type 0 → Type 0
 MatchUnread unread.Fault P Q = P
 MatchUnread unread.TooLong P Q = Q
 MatchUnread unread.NoMemory P Q = ⊤
+
+-- it ran, and its output was written whole or not
+abbrev pub IsRunFinish : Cause → Type 0
+IsRunFinish Ran = ⊤
+IsRunFinish (Usage word) = ⊥
+IsRunFinish (SourceTooLong source) = ⊥
+IsRunFinish (Refused source fault) = ⊥
+IsRunFinish (NotYet source token) = ⊥
+IsRunFinish (ReadFault file) = ⊥
+IsRunFinish WriteFault = ⊤
+IsRunFinish NoMemory = ⊥
+
+-- the cause where a file wasn't read
+abbrev pub unread_cause : ℕ → Unread → Cause
+unread_cause file unread.Fault = ReadFault file
+unread_cause file unread.TooLong = SourceTooLong file
+unread_cause file unread.NoMemory = NoMemory
+
+abbrev pub stop_cause : Stopped → Cause
+stop_cause s = unread_cause s.file s.why
+
+-- P holds of the fault of a source that was not run, or Q of the token
+abbrev pub IfUnrun : Unrun → (SourceFault → Type 0) → (ℕ → Type 0) → Type 0
+IfUnrun (unrun.Fault fault) P Q = P fault
+IfUnrun (unrun.NotYet token) P Q = Q token
+IfUnrun unrun.NoMemory P Q = ⊤
+
+-- the cause where the first source was not run
+abbrev pub unrun_cause : Unrun → Cause
+unrun_cause (unrun.Fault fault) = Refused 0 fault
+unrun_cause (unrun.NotYet token) = NotYet 0 token
+unrun_cause unrun.NoMemory = NoMemory

@@ -1,6 +1,5 @@
 -- The journal of a source that writes texts, in the order of one thread: each text is one act, with a pure step before each but the first.
-use Rattle.std.specs.Prelude.{List, Option, Some, [], suc, zero, ℕ, ◌∷◌}
-use Rattle.obq_base.specs.declared.acts.Act.{Act}
+use Rattle.std.specs.Prelude.{List, Some, [], suc, zero, ℕ, ◌∷◌}
 use Rattle.obq_base.specs.declared.acts.ActKind.TheVariants.{Put, End}
 use Rattle.obq_base.specs.declared.acts.Entry.{Entry}
 

@@ -1,3 +1,4 @@
+pub mod Contents
 pub mod Ends
 pub mod History
 pub mod Known

@@ -1,64 +1,95 @@
--- What a run of a source is.
-use Rattle.std.specs.Prelude.{List, None, Option, Some, [], length, slice_get, slice_index_or, ℕ, ◌≡◌, ◌≤◌, ◌∷◌}
+-- What a run of sources is.
+use Rattle.std.specs.Prelude.{List, None, Option, Some, [], length, map, slice_get, ℕ, ◌≡◌, ◌≤◌, ◌∷◌}
+use Rattle.std.specs.List.{zip}
 use Rattle.obq_base.specs.declared.acts.Report.{Report}
+use Rattle.obq_base.specs.declared.faults.SourceFault.{SourceFault}
+use Rattle.obq_base.specs.declared.tokens.Token.{Token}
+use Rattle.obq_base.specs.declared.trees.Block.{Block}
+use Rattle.obq_base.specs.View.{block_tree}
+use Rattle.obq_model.specs.Config.{Config, Failed, Returned, Running, ThreadState}
 use Rattle.obq_model.specs.Journal.{Journal}
-use Rattle.obq_model.specs.Machine.{Config, Gave, Strand, source_term}
 use Rattle.obq_model.specs.Output.{run_text}
-use Rattle.obq_model.specs.PutTexts.{IsPutTexts, StopsAfter}
-use Rattle.obq_model.specs.Replay.{IsOver, TakeTurns, replay, report, status}
+use Rattle.obq_model.specs.PutTexts.{IsPutTexts, StopsAt}
+use Rattle.obq_model.specs.Replay.{IsOver, TakeTurns, output, replay, report, status}
+use Rattle.obq_model.specs.Sources.{AreAccepted, IsAccepted, IsFirstRefused}
+use Rattle.obq_model.specs.Tokens.{IsReading}
 use Rattle.obq_run.specs.declared.ends.Cause.{Cause}
+use Rattle.obq_run.specs.declared.history.Ran.{Ran}
 use Rattle.obq_run.specs.Ends.{IsRanOrNoMemory}
-use Rattle.obq_run.specs.Known.{IsIt}
-
--- a thread has ended by a value
-abbrev pub HasEnded : Option Strand → Type 0
-HasEnded None = ⊥
-HasEnded (Some strand) = strand.life ≡ Gave
-
--- The journal is one legal history of the source under the turn limit. In the configuration that it leads to thread 0 has ended and no
--- thread can go on.
-pub record IsHistory (source : List ℕ) (turns : ℕ) (journal : Journal) (last : Config) : Type 0 where
-  pub texts : List (List ℕ)
-  pub form : IsPutTexts source texts
-  pub limit : journal.turns ≡ turns
-  pub replays : replay (source_term 0 texts ∷ []) journal ≡ Some last
-  pub each : TakeTurns journal.entries
-  pub ended : HasEnded (slice_get last.threads 0)
-  pub over : IsOver turns last
-
--- The journal is a history of a source within the limit, which is what the file holds where it tells that; in the end writer 0 has these
--- bytes, and the threads stand as the report says.
-pub record IsEndOf (held : Option (List ℕ)) (limit turns : ℕ) (journal : Journal) (bytes : List ℕ) (threads : Report) : Type 0 where
-  pub source : List ℕ
-  pub told : IsIt held source
-  pub within : length source ≤ limit
-  pub last : Config
-  pub history : IsHistory source turns journal last
-  pub written : slice_index_or last.writers 0 [] ≡ bytes
-  pub reported : report turns last ≡ threads
-
--- The text is the output of that history at a site of this name, and the status that of its report.
-pub record IsRunOf (held : Option (List ℕ)) (limit : ℕ) (name : List ℕ) (turns : ℕ) (journal : Journal) (text : List ℕ) (ended_status : ℕ) : Type 0 where
-  pub bytes : List ℕ
-  pub threads : Report
-  pub end : IsEndOf held limit turns journal bytes threads
-  pub output : text ≡ run_text ((name, bytes) ∷ []) threads
-  pub report_status : ended_status ≡ status threads
-
--- A source within the limit, which is what the file holds where it tells that, stops after so many pieces.
-pub record IsNotYetOf (held : Option (List ℕ)) (limit pieces : ℕ) : Type 0 where
-  pub source : List ℕ
-  pub told : IsIt held source
-  pub within : length source ≤ limit
-  pub stops : StopsAfter source pieces
+use Rattle.obq_run.specs.Known.{AreHeld, AreTold}
 
 -- one thread, which has ended by a value
 abbrev pub one_ended : Report
 one_ended = record { ended = 1; raised = 0; waiting = 0; spent = 0 }
 
--- Where the file holds a source within the limit that only writes texts, and neither its count of faults nor that of the output rose, the call
--- ran, or had no memory.
-abbrev pub Completes : Option (List ℕ) → ℕ → Type 0 → Type 0 → Cause → Type 0
-Completes held limit file_rose output_rose cause =
-    (source : List ℕ) (texts : List (List ℕ)) → held ≡ Some source → IsPutTexts source texts → length source ≤ limit → ¬ file_rose → ¬ output_rose
-        → IsRanOrNoMemory cause
+-- a thread has ended by a value
+abbrev pub HasReturned : Option ThreadState → Type 0
+HasReturned None = ⊥
+HasReturned (Some thread) = elim thread.execution [ Running t ↦ ⊥ | Returned v ↦ Unit {0} | Failed e ↦ ⊥ ]
+
+-- The sources are accepted, and the journal is one legal history of them under the turn limit. In the configuration that it leads to
+-- thread 0 has ended by a value and no thread can go on; the sites' writers have these bytes, and the threads stand as the report says.
+pub record IsEndOf (sources : List (List ℕ)) (turns : ℕ) (journal : Journal) (outputs : List (List ℕ)) (threads : Report) : Type 0 where
+  pub trees : List Block
+  pub accepted : AreAccepted sources trees
+  pub last : Config
+  pub limit : journal.turns ≡ turns
+  pub replays : replay (map block_tree trees) journal.turns journal.entries ≡ Some last
+  pub each : TakeTurns journal.entries
+  pub returned : HasReturned (slice_get last.threads 0)
+  pub over : IsOver turns last
+  pub written : output (length sources) last ≡ outputs
+  pub reported : report turns last ≡ threads
+
+-- Sources within the limit, which are what the paths hold where they tell that, ran with this journal. The text is the output of that history
+-- at sites of these names, and the status that of its report.
+pub record IsRunOf (holds : List ℕ → Option (List ℕ)) (limit : ℕ) (names paths : List (List ℕ)) (turns : ℕ) (journal : Journal) (text : List ℕ) (ended_status : ℕ) : Type 0 where
+  pub sources : List (List ℕ)
+  pub held : AreHeld holds limit paths sources
+  pub outputs : List (List ℕ)
+  pub threads : Report
+  pub end : IsEndOf sources turns journal outputs threads
+  pub output_text : text ≡ run_text (zip names outputs) threads
+  pub report_status : ended_status ≡ status threads
+
+-- Sources within the limit, which are what the paths hold where they tell that, run with this journal, and the writer of the first has these
+-- bytes.
+pub record RunsOf (holds : List ℕ → Option (List ℕ)) (limit : ℕ) (paths : List (List ℕ)) (turns : ℕ) (ran : Ran) : Type 0 where
+  pub sources : List (List ℕ)
+  pub held : AreHeld holds limit paths sources
+  pub end : IsEndOf sources turns ran.journal (ran.bytes.items ∷ []) one_ended
+
+-- Of sources within the limit, which are what the paths hold where they tell that, this one is the first that has a fault, and this is its first.
+pub record IsRefusalOf (holds : List ℕ → Option (List ℕ)) (limit : ℕ) (paths : List (List ℕ)) (k : ℕ) (fault : SourceFault) : Type 0 where
+  pub sources : List (List ℕ)
+  pub held : AreHeld holds limit paths sources
+  pub refused : IsFirstRefused sources k fault
+
+-- the source has tokens, and this of them is the first that differs from those of a source that runs
+pub record IsNotYet (source : List ℕ) (k : ℕ) : Type 0 where
+  pub tokens : List Token
+  pub reading : IsReading source tokens
+  pub stops : StopsAt tokens k
+
+-- One source within the limit, which is what the path holds where it tells that, is not run yet because of this token.
+pub record IsNotYetOf (holds : List ℕ → Option (List ℕ)) (limit : ℕ) (paths : List (List ℕ)) (k : ℕ) : Type 0 where
+  pub source : List ℕ
+  pub held : AreHeld holds limit paths (source ∷ [])
+  pub not_yet : IsNotYet source k
+
+-- no path's count of faults rose
+abbrev pub NoneRose : (List ℕ → Type 0) → List (List ℕ) → Type 0
+NoneRose Rises [] = Unit {0}
+NoneRose Rises (path ∷ paths) = ¬ (Rises path) × NoneRose Rises paths
+
+-- each source is within the limit
+abbrev pub AllWithin : ℕ → List (List ℕ) → Type 0
+AllWithin limit [] = Unit {0}
+AllWithin limit (source ∷ sources) = (length source ≤ limit) × AllWithin limit sources
+
+-- Where the path holds a source within the limit that is accepted and only writes texts, and no count of faults rose, it ran, or there was no
+-- memory.
+abbrev pub RunCompletes : (List ℕ → Option (List ℕ)) → ℕ → List (List ℕ) → (List ℕ → Type 0) → Type 0 → Cause → Type 0
+RunCompletes holds limit paths Rises output_rose cause =
+    (source : List ℕ) (tokens : List Token) (tree : Block) (texts : List (List ℕ)) → AreTold holds paths (source ∷ []) → (length source ≤ limit) → IsAccepted source tokens tree
+    → IsPutTexts tokens texts → NoneRose Rises paths → ¬ output_rose → IsRanOrNoMemory cause

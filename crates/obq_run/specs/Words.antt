@@ -1,7 +1,37 @@
--- The words of the command line as bytes.
-use Rattle.std.specs.Prelude.{List, String, map, ℕ}
+-- The words of the command line as bytes, and their sites.
+use Rattle.std.specs.Prelude.{Err, List, None, Ok, Result, Some, String, length, map, ℕ, ◌≡◌}
 use Rattle.std.specs.declared.alloc.Global.{Global}
+use Rattle.std.specs.Global.{Vec}
 use Rattle.std.specs.String.{string_bytes}
+use Rattle.obq_model.specs.CommandLine.{bad_word, name_part, path_part, site_words}
+use Rattle.obq_run.specs.declared.words.SiteWord.{SiteWord}
+use Rattle.obq_run.specs.declared.words.WordsRefused.{WordsRefused}
+use Rattle.obq_run.specs.declared.words.WordsRefused.TheVariants.{NoMemory, Usage}
 
 abbrev pub bytes_of : List (String Global) → List (List ℕ)
 bytes_of words = map string_bytes words
+
+abbrev pub names_of : List SiteWord → List (List ℕ)
+names_of sites = map (λ s. s.name) sites
+
+abbrev pub paths_of : List SiteWord → List (List ℕ)
+paths_of sites = map (λ s. string_bytes s.path) sites
+
+-- the names and paths that a command line gives
+abbrev pub given_names : List (List ℕ) → List (List ℕ)
+given_names words = map name_part (site_words words)
+
+abbrev pub given_paths : List (List ℕ) → List (List ℕ)
+given_paths words = map path_part (site_words words)
+
+-- these are the sites of the words
+pub record AreSites (words : List (List ℕ)) (sites : List SiteWord) : Type 0 where
+  pub names : names_of sites ≡ given_names words
+  pub paths : paths_of sites ≡ given_paths words
+  pub one : length sites ≡ 1
+
+-- what reading the words answers: the sites, or exactly the first word that can't stand
+abbrev pub Answers : List (List ℕ) → Result (Vec SiteWord) WordsRefused → Type 0
+Answers words (Ok sites) = (bad_word words ≡ None) × AreSites words sites.items
+Answers words (Err (Usage word)) = bad_word words ≡ Some word
+Answers words (Err NoMemory) = bad_word words ≡ None

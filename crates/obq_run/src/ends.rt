@@ -4,16 +4,20 @@ ghost use Rattle.std.specs.Prelude.{◌≡◌};
 ghost use Rattle.obq_run.specs.Ends.{status_of};
 
 use crate::journals::Journal;
+use obq_base::SourceFault;
 
 /// Why a call ended as it did. Words count from 0, the program's name left out; sources and files
 /// from 0 in word order.
-#[derive(Clone, Copy, Debug, PartialEq, Eq)]
+#[derive(Debug, PartialEq, Drop)]
 pub enum Cause {
     Ran,
     /// The first word that can't stand in its place; a missing word is the number of words.
     Usage { word: u32 },
     SourceTooLong { source: u16 },
-    /// The source is of a kind that doesn't run yet; so many of its tokens do.
+    /// The first fault of the first source that has one.
+    Refused { source: u16, fault: SourceFault },
+    /// The source has tokens, and of a kind that doesn't run yet; `token` is the first that differs
+    /// from those of a source that runs.
     NotYet { source: u16, token: u32 },
     ReadFault { file: u16 },
     WriteFault,
@@ -30,14 +34,21 @@ pub struct End {
 }
 
 /// The status of a call that ended so, where a run ended with every thread ended by a value.
-pub fn status_for(cause: Cause) -> u8
-    ensures { result ≡ status_of cause }
+pub fn status_for(cause: &Cause) -> u8
+    ensures { result ≡ status_of cause.now }
 {
     match cause {
         Cause::Ran => 0,
         Cause::Usage { word: _ } => 2,
         Cause::SourceTooLong { source: _ } => 7,
-        Cause::NotYet { source: _, token: _ } => 9,
+        Cause::Refused {
+            source: _,
+            fault: _,
+        } => 3,
+        Cause::NotYet {
+            source: _,
+            token: _,
+        } => 9,
         Cause::ReadFault { file: _ } => 4,
         Cause::WriteFault => 5,
         Cause::NoMemory => 6,

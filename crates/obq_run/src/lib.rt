@@ -7,6 +7,7 @@ mod history;
 mod journals;
 mod put_texts;
 mod reading;
+mod run;
 mod texts;
 mod top;
 mod words;
@@ -15,7 +16,8 @@ mod writing;
 pub use ends::{Cause, End};
 pub use journals::Journal;
 pub use reading::SOURCE_LIMIT;
-pub use top::{TURNS, obliq};
+pub use run::TURNS;
+pub use top::obliq;
 
 #[cfg(test)]
 mod tests;

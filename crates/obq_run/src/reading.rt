@@ -1,10 +1,13 @@
-//! Reading a file to a limit.
+//! Reading files to a limit.
 
-ghost use Rattle.std.specs.Prelude.{◌≡◌, ◌<◌, ◌≤◌, ◌^◌, ℕ, List, IfOk, MatchResult, length};
+ghost use Rattle.std.specs.Prelude.{◌≡◌, ◌<◌, ◌≤◌, ◌^◌, ℕ, List, IfErr, IfOk, IsSomeAnd, MatchResult, length, slice_get};
 ghost use Rattle.obq_io.specs.Causes.{Rose};
-ghost use Rattle.obq_run.specs.Known.{IsIt, WhereTold};
+ghost use Rattle.obq_run.specs.Known.{AreHeld, IsIt, WhereTold};
 ghost use Rattle.obq_run.specs.Ends.{MatchUnread};
+ghost use Rattle.obq_run.specs.Contents.{contents};
+ghost use Rattle.obq_run.specs.Words.{paths_of};
 
+use crate::words::SiteWord;
 use obq_io::Files;
 use std::alloc::Global;
 
@@ -54,4 +57,44 @@ pub fn read_file<F: Files>(
         }
     }
     Err(Unread::TooLong)
+}
+
+/// Which file was not read, from 0, and why.
+#[derive(Clone, Copy, Debug, PartialEq, Eq)]
+pub struct Stopped {
+    pub file: u16,
+    pub why: Unread,
+}
+
+/// Reads the sources of the sites in order.
+pub fn read_sources<F: Files>(
+    alloc: Global,
+    files: &mut F,
+    sites: &[SiteWord],
+) -> Result<Vec<Vec<u8>>, Stopped>
+    requires { length sites.now ≤ 16 }
+    ensures same { (n : List ℕ) → F.holds files.new n ≡ F.holds files.old n }
+    ensures held { IfOk result (λ sources. AreHeld (F.holds files.old) SOURCE_LIMIT (paths_of sites.now) (contents sources.items)) }
+    ensures unread { IfErr result (λ s. IsSomeAnd (slice_get (paths_of sites.now) s.file) (λ p. MatchUnread s.why (Rose (F.faults files.old p) (F.faults files.new p)) (WhereTold (F.holds files.old p) (λ xs. SOURCE_LIMIT < length xs)))) }
+{
+    let mut sources = Vec::new(alloc);
+    for (i, site) in sites.iter().enumerate() {
+        match read_file(alloc, files, site.path.as_str(), SOURCE_LIMIT) {
+            Ok(source) => {
+                if sources.push(source).is_err() {
+                    return Err(Stopped {
+                        file: i as u16,
+                        why: Unread::NoMemory,
+                    });
+                }
+            }
+            Err(why) => {
+                return Err(Stopped {
+                    file: i as u16,
+                    why,
+                });
+            }
+        }
+    }
+    Ok(sources)
 }

@@ -1,17 +1,19 @@
 //! The texts that a call writes. Numbers are written from a buffer on the stack, so no call here
 //! takes memory.
 
-ghost use Rattle.std.specs.Prelude.{◌≡◌, ◌∷◌, [], OnOk};
+ghost use Rattle.std.specs.Prelude.{◌≡◌, ◌∷◌, [], OnOk, slice_index_or};
 ghost use Rattle.std.specs.Io.KnownBytes.{Appends};
 ghost use Rattle.obq_io.specs.Causes.{HasCause};
-ghost use Rattle.obq_model.specs.Output.{report_line, run_text, site_text};
+ghost use Rattle.obq_model.specs.Output.{kind_text, lexical_line, refused_line, report_line, run_text, site_text, syntax_line};
 ghost use Rattle.obq_run.specs.Ends.{line_of};
 ghost use Rattle.obq_run.specs.Known.{GetsPrefix};
+ghost use Rattle.obq_run.specs.Words.{names_of};
 
 use crate::ends::Cause;
+use crate::words::SiteWord;
 use crate::writing::write_pieces;
 use itoa::Buffer;
-use obq_base::Report;
+use obq_base::{LexKind, Report, SourceFault};
 use obq_io::{Failed, Sink};
 
 /// Writes what a site of this name wrote.
@@ -69,35 +71,98 @@ pub fn write_run<S: Sink>(
     write_report(out, report)
 }
 
-/// Writes the line that tells the cause of a call on a site of this name; nothing where it ran.
-pub fn write_cause<S: Sink>(err: &mut S, name: &[u8], cause: Cause) -> Result<(), Failed>
-    ensures whole { OnOk result (Appends (S.written err.old) (S.written err.new) (line_of name.now cause)) }
-    ensures prefix { GetsPrefix (S.written err.old) (S.written err.new) (line_of name.now cause) }
+/// The name of the site with this number; nothing where there is none.
+fn name_at(sites: &[SiteWord], k: u16) -> &[u8]
+    ensures { result.now ≡ slice_index_or (names_of sites.now) k [] }
+{
+    match sites.get(k as usize) {
+        Some(site) => site.name.as_bytes(),
+        None => &[],
+    }
+}
+
+fn kind_text(kind: LexKind) -> &'static str
+    ensures { result.now ≡ kind_text kind }
+{
+    match kind {
+        LexKind::Stray => "Stray",
+        LexKind::OpenText => "OpenText",
+        LexKind::LongText => "LongText",
+        LexKind::OpenComment => "OpenComment",
+        LexKind::BadEscape => "BadEscape",
+        LexKind::IntRange => "IntRange",
+        LexKind::Real => "Real",
+        LexKind::NotAscii => "NotAscii",
+        LexKind::TooDeep => "TooDeep",
+    }
+}
+
+/// Writes the line of a lexical fault of this kind, at this byte.
+fn write_lexical<S: Sink>(err: &mut S, name: &[u8], kind: &[u8], place: u32) -> Result<(), Failed>
+    ensures whole { OnOk result (Appends (S.written err.old) (S.written err.new) (lexical_line name.now kind.now place)) }
+    ensures prefix { GetsPrefix (S.written err.old) (S.written err.new) (lexical_line name.now kind.now place) }
+    ensures cause { HasCause (S.faults err.old) (S.faults err.new) result }
+{
+    let mut number = Buffer::new();
+    let place = number.format(place).as_bytes();
+    write_pieces(
+        err,
+        &[name, b": lexical ", kind, b" at byte ", place, b"\n"],
+    )
+}
+
+/// Writes the line of a syntax fault at this token.
+fn write_syntax<S: Sink>(err: &mut S, name: &[u8], token: u32) -> Result<(), Failed>
+    ensures whole { OnOk result (Appends (S.written err.old) (S.written err.new) (syntax_line name.now token)) }
+    ensures prefix { GetsPrefix (S.written err.old) (S.written err.new) (syntax_line name.now token) }
+    ensures cause { HasCause (S.faults err.old) (S.faults err.new) result }
+{
+    let mut number = Buffer::new();
+    let token = number.format(token).as_bytes();
+    write_pieces(err, &[name, b": syntax at token ", token, b"\n"])
+}
+
+/// Writes the line of a source that is refused.
+fn write_refused<S: Sink>(err: &mut S, name: &[u8], fault: SourceFault) -> Result<(), Failed>
+    ensures whole { OnOk result (Appends (S.written err.old) (S.written err.new) (refused_line name.now fault)) }
+    ensures prefix { GetsPrefix (S.written err.old) (S.written err.new) (refused_line name.now fault) }
+    ensures cause { HasCause (S.faults err.old) (S.faults err.new) result }
+{
+    match fault {
+        SourceFault::Lexical { kind, place } => {
+            write_lexical(err, name, kind_text(kind).as_bytes(), place)
+        }
+        SourceFault::Syntax { token } => write_syntax(err, name, token),
+    }
+}
+
+/// Writes the line that tells the cause of a call on these sites; nothing where it ran.
+pub fn write_cause<S: Sink>(err: &mut S, sites: &[SiteWord], cause: &Cause) -> Result<(), Failed>
+    ensures whole { OnOk result (Appends (S.written err.old) (S.written err.new) (line_of (names_of sites.now) cause.now)) }
+    ensures prefix { GetsPrefix (S.written err.old) (S.written err.new) (line_of (names_of sites.now) cause.now) }
     ensures cause { HasCause (S.faults err.old) (S.faults err.new) result }
 {
     let mut number = Buffer::new();
     match cause {
         Cause::Ran => Ok(()),
-        Cause::Usage { word } => write_pieces(
-            err,
-            &[b"usage: word ", number.format(word).as_bytes(), b"\n"],
-        ),
-        Cause::SourceTooLong { source: _ } => {
+        Cause::Usage { word } => {
+            let word = number.format(*word).as_bytes();
+            write_pieces(err, &[b"usage: word ", word, b"\n"])
+        }
+        Cause::SourceTooLong { source } => {
+            let name = name_at(sites, *source);
             write_pieces(err, &[name, b": source too long", b"\n"])
         }
-        Cause::NotYet { source: _, token } => write_pieces(
-            err,
-            &[
-                name,
-                b": not yet at token ",
-                number.format(token).as_bytes(),
-                b"\n",
-            ],
-        ),
-        Cause::ReadFault { file } => write_pieces(
-            err,
-            &[b"read fault at file ", number.format(file).as_bytes(), b"\n"],
-        ),
+        Cause::Refused { source, fault } => write_refused(err, name_at(sites, *source), *fault),
+        Cause::NotYet { source, token } => {
+            let name = name_at(sites, *source);
+            let token = number.format(*token).as_bytes();
+            write_pieces(err, &[name, b": not yet at token ", token, b"\n"])
+        }
+        Cause::ReadFault { file } => {
+            let file = number.format(*file).as_bytes();
+            write_pieces(err, &[b"read fault at file ", file, b"\n"])
+        }
         Cause::WriteFault => write_pieces(err, &[b"write fault", b"\n"]),
         Cause::NoMemory => write_pieces(err, &[b"no memory", b"\n"]),
     }

@@ -1,15 +1,26 @@
 //! The words of the command line.
 
-ghost use Rattle.std.specs.Prelude.{◌≡◌, ◌≤◌, None, Some, MatchOption, MatchResult, true, false};
-ghost use Rattle.obq_model.specs.CommandLine.{bad_word, is_name_byte, is_site_name, is_site_word, name_part, path_part, site_word};
+ghost use Rattle.std.specs.Prelude.{◌≡◌, ◌≤◌, ◌∷◌, [], None, Some, IfOk, MatchOption, false, length, true};
+ghost use Rattle.obq_model.specs.CommandLine.{bad_word, is_command, is_name_byte, is_site_name, is_site_word, name_part, path_part};
 ghost use Rattle.std.specs.List.{list_all};
-ghost use Rattle.obq_run.specs.Words.{bytes_of};
+ghost use Rattle.obq_run.specs.Words.{Answers, bytes_of, names_of, paths_of};
 
-/// A site word, cut at its first `=`.
-#[derive(Clone, Copy, Debug)]
-pub struct SiteWord<'a> {
-    pub name: &'a str,
-    pub path: &'a str,
+use obq_base::{Name, NoMemory};
+use std::alloc::Global;
+
+/// A site's name and the path of its source.
+#[derive(Drop)]
+pub struct SiteWord {
+    pub name: Name,
+    pub path: String,
+}
+
+/// Why a command line gives no sites.
+#[derive(Clone, Copy, Debug, PartialEq, Eq)]
+pub enum WordsRefused {
+    /// The first word that can't stand in its place.
+    Usage { word: u32 },
+    NoMemory,
 }
 
 fn is_name_byte(byte: u8) -> bool
@@ -38,15 +49,15 @@ fn is_site_name(name: &[u8]) -> bool
     }
 }
 
-/// Cuts a site word; `None` where the word is none.
-fn site_of(word: &str) -> Option<SiteWord<'_>>
-    ensures { MatchOption result (is_site_word word.now ≡ false) (λ s. (is_site_word word.now ≡ true) × (s.name.now ≡ name_part word.now) × (s.path.now ≡ path_part word.now)) }
+/// The name and the path of a site word; `None` where the word is none.
+fn site_of(word: &str) -> Option<(&str, &str)>
+    ensures { MatchOption result (is_site_word word.now ≡ false) (λ s. (is_site_word word.now ≡ true) × (s.0.now ≡ name_part word.now) × (s.1.now ≡ path_part word.now)) }
 {
     match word.split_once('=') {
         None => None,
         Some((name, path)) => {
             if is_site_name(name.as_bytes()) && !path.is_empty() {
-                Some(SiteWord { name, path })
+                Some((name, path))
             } else {
                 None
             }
@@ -54,23 +65,43 @@ fn site_of(word: &str) -> Option<SiteWord<'_>>
     }
 }
 
-/// The site word of a command line, or the first word that can't stand in its place.
-pub fn read_words(words: &[String]) -> Result<SiteWord<'_>, u32>
-    ensures site { MatchResult result (λ s. (s.name.now ≡ name_part (site_word (bytes_of words.now))) × (s.path.now ≡ path_part (site_word (bytes_of words.now)))) (λ k. bad_word (bytes_of words.now) ≡ Some k) }
-    ensures good { MatchResult result (λ s. bad_word (bytes_of words.now) ≡ None) (λ k. k ≤ 2) }
+fn is_command(word: &str) -> bool
+    ensures { result ≡ is_command word.now }
+{
+    word == "run"
+}
+
+/// A list of the one site.
+fn one_site(alloc: Global, name: &str, path: &str) -> Result<Vec<SiteWord>, NoMemory>
+    ensures names { IfOk result (λ sites. names_of sites.items ≡ name.now ∷ []) }
+    ensures paths { IfOk result (λ sites. paths_of sites.items ≡ path.now ∷ []) }
+    ensures one { IfOk result (λ sites. length sites.items ≡ 1) }
+{
+    let name = Name::new(Vec::from_slice(alloc, name.as_bytes())?);
+    let path = String::from_str(alloc, path)?;
+    let mut sites = Vec::new(alloc);
+    sites.push(SiteWord { name, path })?;
+    Ok(sites)
+}
+
+/// The sites that a command line gives, or the first word that can't stand in its place.
+pub fn read_words(alloc: Global, words: &[String]) -> Result<Vec<SiteWord>, WordsRefused>
+    ensures { Answers (bytes_of words.now) result }
 {
     match words {
-        [] => Err(0),
-        [command, ..] if command.as_str() != "run" => Err(0),
-        [_] => Err(1),
+        [] => Err(WordsRefused::Usage { word: 0 }),
+        [command, ..] if !is_command(command.as_str()) => Err(WordsRefused::Usage { word: 0 }),
+        [_] => Err(WordsRefused::Usage { word: 1 }),
         [_, site, more @ ..] => match site_of(site.as_str()) {
-            None => Err(1),
-            Some(site) => {
-                if more.is_empty() {
-                    Ok(site)
-                } else {
-                    Err(2)
+            None => Err(WordsRefused::Usage { word: 1 }),
+            Some((name, path)) => {
+                if !more.is_empty() {
+                    return Err(WordsRefused::Usage { word: 2 });
                 }
+                let Ok(sites) = one_site(alloc, name, path) else {
+                    return Err(WordsRefused::NoMemory);
+                };
+                Ok(sites)
             }
         },
     }

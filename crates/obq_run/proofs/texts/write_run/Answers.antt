@@ -27,4 +27,4 @@ returns-clause-prefix g c =
     let site = site_text c.args.name.now c.args.bytes.now in
     let report = report_line c.args.report in
     subst (λ t. GetsPrefix old new t) (ap (λ r. site ++ r) (append-nil report) ∙ run_text-one c.args.name.now c.args.bytes.now c.args.report)
-        (prefix_behind old middle new site report [] c.in_ok-write_site.ensures.whole c.write_report.ensures.prefix)
+    (prefix_behind old middle new site report [] c.in_ok-write_site.ensures.whole c.write_report.ensures.prefix)

@@ -1,22 +1,18 @@
-use Rattle.std.proofs.Common.{List, subst, sym, ℕ, ◌≡◌}
+use Rattle.std.proofs.Common.{List, subst, ℕ}
 use Rattle.obq_io.specs.Causes.{Rose}
-use Rattle.obq_model.specs.CommandLine.{path_part, site_word}
-use Rattle.obq_run.specs.declared.ends.Cause.{Cause}
-use Rattle.obq_run.specs.Runs.{Completes}
-use Rattle.obq_run.specs.Words.{bytes_of}
-use Rattle.obq_run.proofs.Complete.{refused}
+use Rattle.obq_run.specs.Runs.{RunCompletes}
+use Rattle.obq_run.specs.Words.{AreSites, bytes_of, paths_of}
 use Rattle.obq_run.proofs.top.obliq.Goals as goal
 
-pub returns-in-Err-run_file-clause-completes : goal.returns-in-Err-run_file-clause-completes
-returns-in-Err-run_file-clause-completes g c =
+pub returns-in-Ok-clause-completes : goal.returns-in-Ok-clause-completes
+returns-in-Ok-clause-completes g c =
     let files = g.F.Files in
-    let old = c.args.files.now in
-    let new = c.run_file.new.files in
-    let output : Type 0 = Rose (g.O.Sink.faults c.args.out.now) (g.O.Sink.faults c.args.out.now) in
-    let at_path : List ℕ → Cause → Type 0 = λ p cause. Completes (files.holds old p) 1048576 (Rose (files.faults old p) (files.faults new p)) output cause in
-    let path = c.in-Ok.site.path.now in
-    let cause = c.in-Err-run_file.cause in
-    let why = c.in-Err-run_file.ensures in
-    let here : at_path path cause = refused (files.holds old path) 1048576 (Rose (files.faults old path) (files.faults new path)) output cause why.refusal why.read_fault why.too_long why.not_yet in
-    let named : at_path (path_part (site_word (bytes_of c.args.words.now))) cause = subst (λ p. at_path p cause) c.in-Ok.ensures.site.1 here in
-    λ good. subst (λ q. at_path (path_part (site_word (bytes_of c.args.words.now))) q) (sym c.refuse-in-Err-run_file.ensures.cause) named
+    let words : List (List ℕ) = bytes_of c.args.words.now in
+    let holds = files.holds c.args.files.now in
+    let Rises : List ℕ → Type 0 = λ p. Rose (files.faults c.args.files.now p) (files.faults c.run_sites.new.files p) in
+    let output : Type 0 = Rose (g.O.Sink.faults c.args.out.now) (g.O.Sink.faults c.run_sites.new.out) in
+    let cause = c.run_sites.result.cause in
+    let sites : AreSites words c.in-Ok.sites.items = c.in-Ok.ensures.1 in
+    let at_sites : RunCompletes holds 1048576 (paths_of c.in-Ok.sites.items) Rises output cause =
+    subst (λ s. RunCompletes holds 1048576 (paths_of s) Rises output cause) c.deref.ensures.value c.run_sites.ensures.completes in
+    λ good. subst (λ paths. RunCompletes holds 1048576 paths Rises output cause) sites.paths at_sites

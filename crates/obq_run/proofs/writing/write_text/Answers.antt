@@ -1,4 +1,4 @@
-use Rattle.std.proofs.Common.{◌≡◌, ◌+◌, ◌≤◌, length, take, drop, ap, sym, subst, arith, List, ℕ, length-drop}
+use Rattle.std.proofs.Common.{length, take, drop, ap, arith, length-drop}
 use Rattle.std.proofs.Math.Seq.{take-add}
 use Rattle.std.specs.Io.KnownBytes.{Appends}
 use Rattle.obq_run.proofs.Told.{appends_more, rest_is}

@@ -1,0 +1,10 @@
+pub mod Theory
+pub mod Sets
+pub mod Firsts
+pub mod Local
+pub mod Chains
+pub mod Unique
+pub mod Goods
+pub mod Top
+pub mod Prefixes
+pub mod Samples

@@ -1,0 +1,5 @@
+use Rattle.obq_laws.proofs.Reading.{agree_read}
+use Rattle.obq_laws.proofs.agree_read.Goals as goal
+
+pub returns : goal.returns
+returns c c' = record { law = agree_read }

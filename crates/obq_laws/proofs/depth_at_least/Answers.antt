@@ -1,0 +1,5 @@
+use Rattle.obq_laws.proofs.Reading.{depth_at_least}
+use Rattle.obq_laws.proofs.depth_at_least.Goals as goal
+
+pub returns : goal.returns
+returns c c' = record { law = depth_at_least }

@@ -1,0 +1,5 @@
+use Rattle.obq_laws.proofs.Reading.{enter_read}
+use Rattle.obq_laws.proofs.enter_read.Goals as goal
+
+pub returns : goal.returns
+returns c c' = record { law = enter_read }

@@ -1,0 +1,5 @@
+use Rattle.obq_laws.proofs.Naturality.{map_find}
+use Rattle.obq_laws.proofs.natural.Goals as goal
+
+pub returns : goal.returns
+returns c c' = record { law = map_find }

@@ -1,0 +1,5 @@
+use Rattle.obq_laws.proofs.NaturalCells.{map_again}
+use Rattle.obq_laws.proofs.natural_again.Goals as goal
+
+pub returns : goal.returns
+returns c c' = record { law = map_again }

@@ -1,0 +1,5 @@
+use Rattle.obq_laws.proofs.NaturalCells.{map_after_new}
+use Rattle.obq_laws.proofs.natural_new.Goals as goal
+
+pub returns : goal.returns
+returns c c' = record { law = map_after_new }

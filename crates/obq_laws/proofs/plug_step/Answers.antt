@@ -1,0 +1,5 @@
+use Rattle.obq_laws.proofs.Plug.{plug_step}
+use Rattle.obq_laws.proofs.plug_step.Goals as goal
+
+pub returns : goal.returns
+returns c = record { law = plug_step }

@@ -1,0 +1,5 @@
+use Rattle.obq_laws.proofs.Reading.{put_fresh}
+use Rattle.obq_laws.proofs.put_fresh.Goals as goal
+
+pub returns : goal.returns
+returns c c' = record { law = put_fresh }

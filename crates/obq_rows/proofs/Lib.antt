@@ -1,0 +1,17 @@
+pub mod OneThread
+pub mod Expressions
+pub mod Objects
+pub mod Sites
+pub mod Producer
+pub mod Threads
+pub mod Migration
+pub mod TurnLimits
+pub mod TextLimit
+pub mod Links
+pub mod Journals
+pub mod Openings
+pub mod Limits
+pub mod ActOrder
+pub mod Abroad
+pub mod Choices
+pub mod SpanEvents

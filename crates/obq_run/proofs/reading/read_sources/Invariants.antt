@@ -1,0 +1,16 @@
+use Rattle.std.proofs.Common.{List, drop, ℕ, ◌++◌, ◌≡◌, ◌≤◌}
+use Rattle.obq_run.specs.Contents.{contents}
+use Rattle.obq_run.specs.Known.{AreHeld}
+use Rattle.obq_run.specs.Words.{paths_of}
+use Rattle.obq_run.proofs.reading.read_sources.Given as goal
+
+-- sources of the other sites complete those that were read
+abbrev pub invariant-loop-i : goal.invariant-loop-i
+invariant-loop-i g l =
+    let files = g.F.Files in
+    record {
+      same : (n : List ℕ) → files.holds l.files n ≡ files.holds l.fn.files n;
+      later : (n : List ℕ) → files.faults l.fn.files n ≤ files.faults l.files n;
+      held : (others : List (List ℕ)) → AreHeld (files.holds l.fn.files) 1048576 (paths_of (drop l.i l.sites)) others
+          → AreHeld (files.holds l.fn.files) 1048576 (paths_of l.sites) (contents l.sources.items ++ others);
+    }

@@ -1,0 +1,196 @@
+//! The run of one source that only writes texts.
+
+ghost use Rattle.std.specs.Prelude.{◌≡◌, ◌⊎◌, ◌<◌, ◌≤◌, ◌∷◌, [], IfErr, IfOk, IsSomeAnd, List, length, slice_get, ℕ};
+ghost use Rattle.std.specs.List.{zip};
+ghost use Rattle.std.specs.Io.KnownBytes.{Appends};
+ghost use Rattle.obq_io.specs.Causes.{Rose};
+ghost use Rattle.obq_model.specs.Output.{run_text};
+ghost use Rattle.obq_model.specs.Sources.{IsFault};
+ghost use Rattle.obq_run.specs.Ends.{IfNotYet, IfReadFault, IfRefused, IfTooLong, IfUnrun, IsRefusal, IsRunEnd, IsRunFinish, IsRunRefusal, OnRan, OnWriteFault, line_of, status_of, stop_cause, unrun_cause};
+ghost use Rattle.obq_run.specs.Known.{AreHeld, GetsPrefix, WhereTold};
+ghost use Rattle.obq_run.specs.Runs.{IsEndOf, IsNotYet, IsNotYetOf, IsRefusalOf, IsRunOf, RunCompletes, RunsOf, one_ended};
+ghost use Rattle.obq_run.specs.Words.{names_of, paths_of};
+
+use crate::ends::{Cause, End, status_for};
+use crate::history::{Ran, run_texts};
+use crate::journals::Journal;
+use crate::put_texts::{Unreadable, read_texts};
+use crate::reading::{SOURCE_LIMIT, Stopped, Unread, read_sources};
+use crate::texts::{write_cause, write_run};
+use crate::words::SiteWord;
+use obq_base::{Report, SourceFault};
+use obq_io::{Files, Sink};
+use obq_lex::{LexRefused, lex};
+use std::alloc::Global;
+
+/// How many turns a thread has.
+pub const TURNS: u32 = 100_000;
+
+/// Why a source was not run.
+pub enum Unrun {
+    Fault(SourceFault),
+    /// The first token that differs from those of a source that runs.
+    NotYet { token: u32 },
+    NoMemory,
+}
+
+/// Runs a source, without writing anything.
+fn run_source(alloc: Global, source: &[u8]) -> Result<Ran, Unrun>
+    requires { length source.now ≤ SOURCE_LIMIT }
+    ensures ran { IfOk result (λ r. IsEndOf (source.now ∷ []) TURNS r.journal (r.bytes.items ∷ []) one_ended) }
+    ensures unrun { IfErr result (λ why. IfUnrun why (IsFault source.now) (IsNotYet source.now)) }
+{
+    let tokens = match lex(alloc, source) {
+        Ok(tokens) => tokens,
+        Err(LexRefused::Fault { kind, place }) => {
+            return Err(Unrun::Fault(SourceFault::Lexical { kind, place }));
+        }
+        Err(LexRefused::NoMemory) => return Err(Unrun::NoMemory),
+    };
+    let texts = match read_texts(alloc, &tokens) {
+        Ok(texts) => texts,
+        Err(Unreadable::At { token }) => return Err(Unrun::NotYet { token }),
+        Err(Unreadable::NoMemory) => return Err(Unrun::NoMemory),
+    };
+    match run_texts(alloc, &texts, TURNS) {
+        Ok(ran) => Ok(ran),
+        Err(_) => Err(Unrun::NoMemory),
+    }
+}
+
+/// The cause where the first source was not run.
+fn cause_of_unrun(unrun: Unrun) -> Cause
+    ensures { result ≡ unrun_cause unrun }
+{
+    match unrun {
+        Unrun::Fault(fault) => Cause::Refused { source: 0, fault },
+        Unrun::NotYet { token } => Cause::NotYet { source: 0, token },
+        Unrun::NoMemory => Cause::NoMemory,
+    }
+}
+
+/// The cause where a file wasn't read.
+fn cause_of_stop(stopped: Stopped) -> Cause
+    ensures { result ≡ stop_cause stopped }
+{
+    match stopped.why {
+        Unread::Fault => Cause::ReadFault { file: stopped.file },
+        Unread::TooLong => Cause::SourceTooLong {
+            source: stopped.file,
+        },
+        Unread::NoMemory => Cause::NoMemory,
+    }
+}
+
+/// Reads and runs the source of the one site, without writing anything.
+fn run_files<F: Files>(alloc: Global, files: &mut F, sites: &[SiteWord]) -> Result<Ran, Cause>
+    requires { length sites.now ≡ 1 }
+    ensures same { (n : List ℕ) → F.holds files.new n ≡ F.holds files.old n }
+    ensures ran { IfOk result (RunsOf (F.holds files.old) SOURCE_LIMIT (paths_of sites.now) TURNS) }
+    ensures only { IfErr result IsRunRefusal }
+    ensures read_fault { IfErr result (λ cause. IfReadFault cause (λ file. IsSomeAnd (slice_get (paths_of sites.now) file) (λ p. Rose (F.faults files.old p) (F.faults files.new p)))) }
+    ensures too_long { IfErr result (λ cause. IfTooLong cause (λ s. IsSomeAnd (slice_get (paths_of sites.now) s) (λ p. WhereTold (F.holds files.old p) (λ xs. SOURCE_LIMIT < length xs)))) }
+    ensures refused { IfErr result (λ cause. IfRefused cause (IsRefusalOf (F.holds files.old) SOURCE_LIMIT (paths_of sites.now))) }
+    ensures not_yet { IfErr result (λ cause. IfNotYet cause (λ s k. (s ≡ 0) × IsNotYetOf (F.holds files.old) SOURCE_LIMIT (paths_of sites.now) k)) }
+{
+    let sources = match read_sources(alloc, files, sites) {
+        Ok(sources) => sources,
+        Err(stopped) => return Err(cause_of_stop(stopped)),
+    };
+    match run_source(alloc, &sources[0]) {
+        Ok(ran) => Ok(ran),
+        Err(unrun) => Err(cause_of_unrun(unrun)),
+    }
+}
+
+/// The end of a call that is refused before it writes: the cause is told on `err`.
+pub fn refuse<E: Sink>(alloc: Global, err: &mut E, sites: &[SiteWord], cause: Cause) -> End
+    requires { IsRefusal cause }
+    ensures cause { result.cause ≡ cause }
+    ensures status { result.status ≡ status_of cause }
+    ensures no_journal { result.journal.entries ≡ [] }
+    ensures told { GetsPrefix (E.written err.old) (E.written err.new) (line_of (names_of sites.now) cause) }
+    ensures told_whole { Appends (E.written err.old) (E.written err.new) (line_of (names_of sites.now) cause) ⊎ Rose (E.faults err.old) (E.faults err.new) }
+{
+    let _ = write_cause(err, sites, &cause);
+    End {
+        status: status_for(&cause),
+        cause,
+        journal: Journal::new(alloc, 0),
+    }
+}
+
+/// The end of a call whose source ran: its output is written.
+fn finish<O: Sink, E: Sink>(out: &mut O, err: &mut E, sites: &[SiteWord], ran: Ran) -> End
+    requires { length sites.now ≡ 1 }
+    ensures journal { result.journal ≡ ran.journal }
+    ensures ran { OnRan result.cause (Appends (O.written out.old) (O.written out.new) (run_text (zip (names_of sites.now) (ran.bytes.items ∷ [])) one_ended)) }
+    ensures part { OnWriteFault result.cause (GetsPrefix (O.written out.old) (O.written out.new) (run_text (zip (names_of sites.now) (ran.bytes.items ∷ [])) one_ended)) }
+    ensures write_fault { OnWriteFault result.cause (Rose (O.faults out.old) (O.faults out.new)) }
+    ensures only { IsRunFinish result.cause }
+    ensures status { result.status ≡ status_of result.cause }
+    ensures told { GetsPrefix (E.written err.old) (E.written err.new) (line_of (names_of sites.now) result.cause) }
+    ensures told_whole { Appends (E.written err.old) (E.written err.new) (line_of (names_of sites.now) result.cause) ⊎ Rose (E.faults err.old) (E.faults err.new) }
+    ensures quiet { OnRan result.cause (err.new ≡ err.old) }
+{
+    let Ran { journal, bytes } = ran;
+    let report = Report {
+        ended: 1,
+        raised: 0,
+        waiting: 0,
+        spent: 0,
+    };
+    let cause = match write_run(out, sites[0].name.as_bytes(), &bytes, report) {
+        Ok(()) => Cause::Ran,
+        Err(_) => {
+            let _ = write_cause(err, sites, &Cause::WriteFault);
+            Cause::WriteFault
+        }
+    };
+    End {
+        status: status_for(&cause),
+        cause,
+        journal,
+    }
+}
+
+/// Runs the source of the one site, and writes what it wrote to `out`, or tells on `err` why it
+/// didn't.
+pub fn run_sites<F: Files, O: Sink, E: Sink>(
+    alloc: Global,
+    sites: &[SiteWord],
+    files: &mut F,
+    out: &mut O,
+    err: &mut E,
+) -> End
+    requires { length sites.now ≡ 1 }
+
+    // Each cause comes only where it may.
+    ensures only { IsRunEnd result.cause }
+    ensures read_fault { IfReadFault result.cause (λ file. IsSomeAnd (slice_get (paths_of sites.now) file) (λ p. Rose (F.faults files.old p) (F.faults files.new p))) }
+    ensures too_long { IfTooLong result.cause (λ s. IsSomeAnd (slice_get (paths_of sites.now) s) (λ p. WhereTold (F.holds files.old p) (λ xs. SOURCE_LIMIT < length xs))) }
+    ensures refused { IfRefused result.cause (IsRefusalOf (F.holds files.old) SOURCE_LIMIT (paths_of sites.now)) }
+    ensures not_yet { IfNotYet result.cause (λ s k. (s ≡ 0) × IsNotYetOf (F.holds files.old) SOURCE_LIMIT (paths_of sites.now) k) }
+    ensures write_fault { OnWriteFault result.cause (Rose (O.faults out.old) (O.faults out.new)) }
+
+    // The journal is a history of the source, and what is written is its output.
+    ensures ran { OnRan result.cause ((text : List ℕ) × IsRunOf (F.holds files.old) SOURCE_LIMIT (names_of sites.now) (paths_of sites.now) TURNS result.journal text result.status
+        × Appends (O.written out.old) (O.written out.new) text) }
+    ensures part { OnWriteFault result.cause ((text : List ℕ) × IsRunOf (F.holds files.old) SOURCE_LIMIT (names_of sites.now) (paths_of sites.now) TURNS result.journal text 0
+        × GetsPrefix (O.written out.old) (O.written out.new) text) }
+    ensures status { result.status ≡ status_of result.cause }
+    ensures completes { RunCompletes (F.holds files.old) SOURCE_LIMIT (paths_of sites.now) (λ p. Rose (F.faults files.old p) (F.faults files.new p)) (Rose (O.faults out.old) (O.faults out.new)) result.cause }
+
+    // A refusal writes nothing but its line.
+    ensures unwritten { IsRefusal result.cause → out.new ≡ out.old }
+    ensures no_journal { IsRefusal result.cause → result.journal.entries ≡ [] }
+    ensures told { GetsPrefix (E.written err.old) (E.written err.new) (line_of (names_of sites.now) result.cause) }
+    ensures told_whole { Appends (E.written err.old) (E.written err.new) (line_of (names_of sites.now) result.cause) ⊎ Rose (E.faults err.old) (E.faults err.new) }
+    ensures quiet { OnRan result.cause (err.new ≡ err.old) }
+    ensures same { (n : List ℕ) → F.holds files.new n ≡ F.holds files.old n }
+{
+    match run_files(alloc, files, sites) {
+        Ok(ran) => finish(out, err, sites, ran),
+        Err(cause) => refuse(alloc, err, sites, cause),
+    }
+}
