@@ -21,12 +21,14 @@ impl Model for Name {
 }
 
 impl Name {
+    /// The name of these bytes, which it keeps.
     pub fn new(bytes: Vec<u8>) -> Name
         ensures { result ≡ bytes.items }
     {
         Name { bytes }
     }
 
+    /// Its bytes, which it gives up.
     pub fn into_bytes(self) -> Vec<u8>
         ensures { result.items ≡ self }
     {
@@ -34,6 +36,7 @@ impl Name {
         bytes
     }
 
+    /// Its bytes.
     pub fn as_bytes(&self) -> &[u8]
         ensures { result.now ≡ self.now }
     {
@@ -79,12 +82,14 @@ impl Model for Text {
 }
 
 impl Text {
+    /// The text of these bytes, which it keeps.
     pub fn new(bytes: Vec<u8>) -> Text
         ensures { result ≡ bytes.items }
     {
         Text { bytes }
     }
 
+    /// Its bytes, which it gives up.
     pub fn into_bytes(self) -> Vec<u8>
         ensures { result.items ≡ self }
     {
@@ -92,6 +97,7 @@ impl Text {
         bytes
     }
 
+    /// Its bytes.
     pub fn as_bytes(&self) -> &[u8]
         ensures { result.now ≡ self.now }
     {

@@ -25,6 +25,7 @@ impl<'a, R: rt::Files> Drop for DiskFiles<'a, R> {
 }
 
 impl<'a, R: rt::Files> DiskFiles<'a, R> {
+    /// The files of the machine that the handle reaches. None is open, and no count has risen.
     pub fn new(rt: &'a R) -> DiskFiles<'a, R> {
         DiskFiles {
             rt,

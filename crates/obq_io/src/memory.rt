@@ -59,6 +59,7 @@ pub struct MemFiles {
 }
 
 impl MemFiles {
+    /// Files by path; a path that stands twice has the first content. `fails` lists the calls, from 1, that fail.
     pub fn new(files: Vec<(String, Vec<u8>)>, fails: Vec<u64>) -> MemFiles
         ensures files { result.files ≡ files }
         ensures fails { fails_of result ≡ fails.items }
@@ -154,6 +155,7 @@ pub struct SureFiles {
 }
 
 impl SureFiles {
+    /// Files by path; a path that stands twice has the first content.
     pub fn new(files: Vec<(String, Vec<u8>)>) -> SureFiles
         ensures { result.files ≡ files }
     {

@@ -22,6 +22,7 @@ pub struct MemSink {
 impl MemSink {
     ghost use Rattle.obq_io.specs.Memory.{room_of};
 
+    /// An empty sink with room for so many bytes, which are allocated here.
     pub fn new(alloc: Global, room: u32) -> Result<MemSink, NoMemory>
         ensures empty { IfOk result (λ s. s.bytes.items ≡ []) }
         ensures room { IfOk result (λ s. room_of s ≡ room) }
@@ -92,6 +93,7 @@ pub struct SureSink {
 impl SureSink {
     ghost use Rattle.obq_io.specs.Memory.{count_of};
 
+    /// A sink that has taken nothing.
     pub fn new() -> SureSink
         ensures { count_of result ≡ 0 }
     {

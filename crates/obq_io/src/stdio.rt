@@ -16,6 +16,7 @@ pub struct StdSink<W: Write + Drop> {
 }
 
 impl<W: Write + Drop> StdSink<W> {
+    /// A sink that writes to `inner` and counts the writes that it refuses.
     pub fn new(inner: W) -> StdSink<W> {
         StdSink { inner, faults: 0 }
     }

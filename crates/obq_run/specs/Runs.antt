@@ -11,7 +11,7 @@ use Rattle.obq_model.specs.Journal.{Journal}
 use Rattle.obq_model.specs.Output.{run_text}
 use Rattle.obq_model.specs.PutTexts.{IsPutTexts, StopsAt}
 use Rattle.obq_model.specs.Replay.{IsOver, TakeTurns, output, replay, report, status}
-use Rattle.obq_model.specs.Sources.{AreAccepted, IsAccepted, IsFirstRefused}
+use Rattle.obq_model.specs.Sources.{AreAccepted, IsFirstRefused}
 use Rattle.obq_model.specs.Tokens.{IsReading}
 use Rattle.obq_run.specs.declared.ends.Cause.{Cause}
 use Rattle.obq_run.specs.declared.history.Ran.{Ran}
@@ -87,9 +87,8 @@ abbrev pub AllWithin : ℕ → List (List ℕ) → Type 0
 AllWithin limit [] = Unit {0}
 AllWithin limit (source ∷ sources) = (length source ≤ limit) × AllWithin limit sources
 
--- Where the path holds a source within the limit that is accepted and only writes texts, and no count of faults rose, it ran, or there was no
--- memory.
+-- Where the path holds a source within the limit whose tokens only write texts, and no count of faults rose, it ran, or there was no memory.
 abbrev pub RunCompletes : (List ℕ → Option (List ℕ)) → ℕ → List (List ℕ) → (List ℕ → Type 0) → Type 0 → Cause → Type 0
 RunCompletes holds limit paths Rises output_rose cause =
-    (source : List ℕ) (tokens : List Token) (tree : Block) (texts : List (List ℕ)) → AreTold holds paths (source ∷ []) → (length source ≤ limit) → IsAccepted source tokens tree
+    (source : List ℕ) (tokens : List Token) (texts : List (List ℕ)) → AreTold holds paths (source ∷ []) → (length source ≤ limit) → IsReading source tokens
     → IsPutTexts tokens texts → NoneRose Rises paths → ¬ output_rose → IsRanOrNoMemory cause

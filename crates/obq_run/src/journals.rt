@@ -41,12 +41,14 @@ impl Journal {
         Ok(())
     }
 
+    /// The limit on a thread's turns that the run had.
     pub fn turns(&self) -> u32
         ensures { result ≡ self.now.turns }
     {
         self.turns
     }
 
+    /// The number of entries.
     pub fn len(&self) -> u64
         ensures { result ≡ length self.now.entries }
     {
