@@ -94,8 +94,8 @@ run_refused holds limit paths Rises out (SourceTooLong s) only read long faulty 
     λ source tokens texts told within is_read form none calm. absurd (too_long_at holds limit paths (source ∷ []) s told (within, tt) long)
 run_refused holds limit paths Rises out (Refused s fault) only read long faulty yet =
     λ source tokens texts told within is_read form none calm. (
-        let tree : (tree : Block) × IsAccepted source tokens tree = accepted_texts source tokens texts is_read form in
-        absurd (refusal_not holds limit paths (source ∷ []) (tree.0 ∷ []) s fault told ((tokens, tree.1), tt) faulty)
+    let tree : (tree : Block) × IsAccepted source tokens tree = accepted_texts source tokens texts is_read form in
+    absurd (refusal_not holds limit paths (source ∷ []) (tree.0 ∷ []) s fault told ((tokens, tree.1), tt) faulty)
     )
 run_refused holds limit paths Rises out (NotYet s k) only read long faulty yet =
     λ source tokens texts told within is_read form none calm. absurd (not_yet_not holds limit paths source tokens texts k told is_read form yet.1)
