@@ -1,0 +1,2 @@
+//! Steps of the parser that read no nested part.
+#![tactic(auto)]
