@@ -7,7 +7,7 @@ use Rattle.obq_base.specs.declared.trees.Operator.{Operator}
 use Rattle.obq_model.specs.Nodes.{token, next}
 use Rattle.obq_model.specs.Grammar.{Operates}
 use Rattle.obq_grammar.specs.Fails.{Cut, here, there, Fails}
-use Rattle.obq_grammar.specs.Follow.{No, Yes, is_word, Anything}
+use Rattle.obq_grammar.specs.Follow.{No, Yes, is_word, Anything, BeginsName}
 use Rattle.obq_grammar.proofs.Theory.{Good, Begins, Both, behind, same_front, after, past, stop, fewer, narrow}
 use Rattle.obq_grammar.proofs.Sets.{no_yes}
 use Rattle.obq_sequence.specs.Parts.{IsWord, the_word, IsName, the_name, IsOperator, the_operator, Then, then_}
@@ -15,22 +15,22 @@ use Rattle.obq_sequence.specs.Parts.{IsWord, the_word, IsName, the_name, IsOpera
 -- What begins with an M that ends before a token of T may stand behind what ends before a token of U; and there is an M before each such token.
 pub record Behind {B : Type 0} (U : TokenKind → Type 0) (M : B → List Token → List Token → Type 0) (T : TokenKind → Type 0) : Type 0 where
   pub before : (b : B) (x r : List Token) → M b x r → T (next r) → U (next x)
-  pub some : (r : List Token) → T (next r) → (b : B) × (x : List Token) × M b x r
+  pub some : (r : List Token) → (b : B) × (x : List Token) × M b x r
 
-pub anything : {B : Type 0} {M : B → List Token → List Token → Type 0} {T : TokenKind → Type 0} → ((r : List Token) → T (next r) → (b : B) × (x : List Token) × M b x r) → Behind Anything M T
+pub anything : {B : Type 0} {M : B → List Token → List Token → Type 0} {T : TokenKind → Type 0} → ((r : List Token) → (b : B) × (x : List Token) × M b x r) → Behind Anything M T
 anything some = record { before = λ b x r m h. tt; some = some }
 
 word_before : (U : TokenKind → Type 0) {kind : TokenKind} {t : Unit {0}} {x r : List Token} → U kind → IsWord kind t x r → U (next x)
 word_before U u the_word = u
 
 pub word_behind : {U T : TokenKind → Type 0} {kind : TokenKind} → U kind → Behind U (IsWord kind) T
-word_behind {U = U} {kind = kind} u = record { before = λ b x r m h. word_before U u m; some = λ r h. (tt, token kind 0 ∷ r, the_word) }
+word_behind {U = U} {kind = kind} u = record { before = λ b x r m h. word_before U u m; some = λ r. (tt, token kind 0 ∷ r, the_word) }
 
 name_before : (U : TokenKind → Type 0) {n : List ℕ} {x r : List Token} → ((m : List ℕ) → U (k.Name m)) → IsName n x r → U (next x)
 name_before U {n = n} u the_name = u n
 
 pub name_behind : {U T : TokenKind → Type 0} → ((m : List ℕ) → U (k.Name m)) → Behind U IsName T
-name_behind {U = U} u = record { before = λ b x r m h. name_before U u m; some = λ r h. ([], token (k.Name []) 0 ∷ r, the_name) }
+name_behind {U = U} u = record { before = λ b x r m h. name_before U u m; some = λ r. ([], token (k.Name []) 0 ∷ r, the_name) }
 
 then_before : {A B : Type 0} {K : A → List Token → List Token → Type 0} {M : B → List Token → List Token → Type 0} {U V T : TokenKind → Type 0} {t : Unit {0}} {x r : List Token} → Behind U K V → Behind V M T → Then K M t x r → T (next r) → U (next x)
 then_before f s (then_ p q) h = f.before _ _ _ p (s.before _ _ _ q h)
@@ -38,9 +38,9 @@ then_before f s (then_ p q) h = f.before _ _ _ p (s.before _ _ _ q h)
 pub then_behind : {A B : Type 0} {K : A → List Token → List Token → Type 0} {M : B → List Token → List Token → Type 0} {U V T : TokenKind → Type 0} → Behind U K V → Behind V M T → Behind U (Then K M) T
 then_behind f s = record {
   before = λ b x r m h. then_before f s m h;
-  some = λ r h.
-      let q = s.some r h in
-      let p = f.some q.1 (s.before q.0 q.1 r q.2 h) in
+  some = λ r.
+      let q = s.some r in
+      let p = f.some q.1 in
       (tt, p.1, then_ p.2 q.2);
 }
 
@@ -52,7 +52,7 @@ both_of n (then_ p q) h = (_, _, _, _, p, n.before _ _ _ q h, q, h)
 
 -- the first part fails
 pub first : {A B : Type 0} {K : A → List Token → List Token → Type 0} {M : B → List Token → List Token → Type 0} {U T : TokenKind → Type 0} {x z : List Token} → Behind U M T → Fails K U x z → Fails (Then K M) T x z
-first n f = after [] (λ a y s e l h. first_of n l h) (λ r h. let w = n.some r h in (w.1, n.before w.0 w.1 r w.2 h, λ b y p. (tt, then_ p w.2))) f
+first n f = after [] (λ a y s e l h. first_of n l h) (λ r h. let w = n.some r in (w.1, n.before w.0 w.1 r w.2 h, λ b y p. (tt, then_ p w.2))) f
 
 -- the first part goes up to y, and what stands behind it fails
 pub second : {A B : Type 0} {K : A → List Token → List Token → Type 0} {M : B → List Token → List Token → Type 0} {U T : TokenKind → Type 0} {a : A} {x y z : List Token} → Good K U → Behind U M T → K a x y → U (next y) → Fails M T y z → Fails (Then K M) T x z
@@ -101,15 +101,30 @@ same_word : (kind : TokenKind) → Yes (is_word kind kind) → (other : TokenKin
 same_word kind y other n e = no_yes (is_word kind kind) (subst (λ (w : TokenKind). No (is_word kind w)) e n) y
 
 -- the next token isn't the word
-pub no_word : {kind : TokenKind} {x : List Token} → Yes (is_word kind kind) → No (is_word kind (next x)) → Fails (IsWord kind) Anything x x
-no_word {kind = kind} {x = x} same other = stop (λ b y s e m h. same_word kind same (next x) other (sym e ∙ word_next m)) (λ r h. (tt, token kind 0 ∷ r, the_word))
+-- the next token is another
+pub other_word : {kind : TokenKind} {x : List Token} → Yes (is_word kind kind) → No (is_word kind (next x)) → Fails (IsWord kind) Anything x x
+other_word {kind = kind} {x = x} same other = stop (λ b y s e m h. same_word kind same (next x) other (sym e ∙ word_next m)) (λ r h. (tt, token kind 0 ∷ r, the_word))
 
-pub not_word : {kind : TokenKind} {x : List Token} → (next x ≡ kind → ⊥) → Fails (IsWord kind) Anything x x
-not_word {kind = kind} other = stop (λ b y s e m h. other (sym e ∙ word_next m)) (λ r h. (tt, token kind 0 ∷ r, the_word))
+name_begins : {n : List ℕ} {x r : List Token} → IsName n x r → BeginsName (next x)
+name_begins the_name = tt
 
-name_next : {n : List ℕ} {x r : List Token} → IsName n x r → next x ≡ k.Name n
-name_next the_name = refl
+pub other_name : {x : List Token} → (BeginsName (next x) → ⊥) → Fails IsName Anything x x
+other_name other = stop (λ b y s e m h. other (subst BeginsName e (name_begins m))) (λ r h. ([], token (k.Name []) 0 ∷ r, the_name))
 
--- the next token is no name
-pub not_name : {x : List Token} → ((n : List ℕ) → next x ≡ k.Name n → ⊥) → Fails IsName Anything x x
-not_name other = stop (λ b y s e m h. other b (sym e ∙ name_next m)) (λ r h. ([], token (k.Name []) 0 ∷ r, the_name))
+-- a word or a name that was read
+pub word : {kind : TokenKind} {p : ℕ} {x y : List Token} → x ≡ token kind p ∷ y → IsWord kind tt x y
+word {kind = kind} {y = y} e = subst (λ (l : List Token). IsWord kind tt l y) (sym e) the_word
+
+pub named : {n : List ℕ} {p : ℕ} {x y : List Token} → x ≡ token (k.Name n) p ∷ y → IsName n x y
+named {n = n} {y = y} e = subst (λ (l : List Token). IsName n l y) (sym e) the_name
+
+-- one token, and more behind it
+pub also : {t : Token} {x y z : List Token} → x ≡ t ∷ y → y ≡ z → x ≡ t ∷ z
+also {t = t} e f = e ∙ ap (λ (l : List Token). t ∷ l) f
+
+-- the same language over other trees
+pub renamed : {A B : Type 0} {L : A → List Token → List Token → Type 0} {M : B → List Token → List Token → Type 0} {S : TokenKind → Type 0} {x z : List Token} →
+    ((b : B) (y r : List Token) → M b y r → (a : A) × L a y r) →
+    ((a : A) (y r : List Token) → L a y r → (b : B) × M b y r) →
+    Fails L S x z → Fails M S x z
+renamed back fore f = after [] (λ b y s e m h. let w = back b y s m in (w.0, s, w.1, h)) (λ r h. (r, h, λ a y l. fore a y r l)) f
