@@ -1,3 +1,6 @@
 pub mod Sequences
 pub mod Beginnings
 pub mod Bindings
+pub mod Fields
+pub mod Primaries
+pub mod Blocks
