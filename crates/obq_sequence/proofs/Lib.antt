@@ -4,3 +4,4 @@ pub mod Bindings
 pub mod Fields
 pub mod Primaries
 pub mod Blocks
+pub mod Lets
