@@ -1,0 +1,7 @@
+pub mod Sequences
+pub mod Beginnings
+pub mod Bindings
+pub mod Fields
+pub mod Primaries
+pub mod Blocks
+pub mod Lets
