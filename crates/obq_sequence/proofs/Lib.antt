@@ -5,3 +5,4 @@ pub mod Fields
 pub mod Primaries
 pub mod Blocks
 pub mod Lets
+pub mod Suffixes
