@@ -6,3 +6,5 @@ pub mod Primaries
 pub mod Blocks
 pub mod Lets
 pub mod Suffixes
+pub mod Objects
+pub mod Stops
