@@ -5,3 +5,6 @@ pub mod Fields
 pub mod Primaries
 pub mod Blocks
 pub mod Lets
+pub mod Suffixes
+pub mod Objects
+pub mod Stops

@@ -72,6 +72,19 @@ pub opened : {A B : Type 0} {L : A → List Token → List Token → Type 0} {M 
     IsWord kind t x y → Fails M S y z → Fails L S x z
 opened {kind = kind} back fore (the_word {p = p}) f = after (token kind p ∷ []) (λ a y s e l h. let w = back p a y s l h in (w.0, s, w.1, h)) (λ r h. (r, h, λ b y m. fore p b y r m)) f
 
+-- and where it begins so and then with a token of P
+pub opened_by : {A B : Type 0} {L : A → List Token → List Token → Type 0} {M : B → List Token → List Token → Type 0} {S : TokenKind → Type 0} {kind : TokenKind} {t : Unit {0}} {x y z : List Token} (P : TokenKind → Type 0) →
+    ((p : ℕ) (a : A) (y s : List Token) → P (next y) → L a (token kind p ∷ y) s → S (next s) → (b : B) × M b y s) →
+    ((p : ℕ) (b : B) (y s : List Token) → M b y s → (a : A) × L a (token kind p ∷ y) s) →
+    IsWord kind t x y → P (next y) → Fails M S y z → Fails L S x z
+opened_by {kind = kind} P back fore (the_word {p = p}) c f = after (token kind p ∷ []) (λ a y s e l h. let w = back p a y s (subst P (sym e) c) l h in (w.0, s, w.1, h)) (λ r h. (r, h, λ b y m. fore p b y r m)) f
+
+-- nothing that begins with a token of P
+pub nothing : {A : Type 0} {L : A → List Token → List Token → Type 0} {S : TokenKind → Type 0} {x : List Token} (P : TokenKind → Type 0) →
+    ((a : A) (y s : List Token) → P (next y) → L a y s → S (next s) → ⊥) →
+    ((r : List Token) → (a : A) × (y : List Token) × L a y r) → P (next x) → Fails L S x x
+nothing P none some c = stop (λ b y s e m h. none b y s (subst P (sym e) c) m h) (λ r h. some r)
+
 -- words and names
 
 word_list : {kind : TokenKind} {t : Unit {0}} {x r : List Token} → IsWord kind t x r → (p : ℕ) × (x ≡ token kind p ∷ r)

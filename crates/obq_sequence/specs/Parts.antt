@@ -1,5 +1,5 @@
 -- The parts of a production as languages: a word or a name alone, and one part behind another.
-use Rattle.std.specs.Prelude.{ℕ, suc, Bool, List, [], ◌∷◌}
+use Rattle.std.specs.Prelude.{ℕ, suc, ◌<◌, Bool, List, [], ◌∷◌}
 use Rattle.obq_base.specs.declared.tokens.TokenKind.{TokenKind}
 use Rattle.obq_base.specs.declared.tokens.TokenKind.TheVariants as k
 use Rattle.obq_base.specs.declared.tokens.Token.{Token}
@@ -48,3 +48,8 @@ pub data IsTryBody : Expr → List Token → List Token → Type 0 where
 
 pub data IsDottedBody : Suffix → List Token → List Token → Type 0 where
   dotted_body : {n : List ℕ} {p : ℕ} {f : Suffix} {x r : List Token} → IsDotted n p f x r → IsDottedBody f x r
+
+-- what makes an expression of an operand of level l: operators and operands of that level and of each weaker one
+pub data IsRest : ℕ → Unit {0} → List Token → List Token → Type 0 where
+  top : {x : List Token} → IsRest 5 tt x x
+  rise : {l : ℕ} {ls : List Link} {x y r : List Token} → l < 5 → IsLinks l ls x y → IsRest (suc l) tt y r → IsRest l tt x r
