@@ -1,7 +1,6 @@
 //! The parser: from the tokens of a source to its syntax tree, or to the first token that no program has there.
 #![tactic(auto)]
 
-mod exp;
 mod parser;
 
 pub use parser::{ParseRefused, parse};

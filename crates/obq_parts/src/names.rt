@@ -22,11 +22,13 @@ fn read_names(alloc: Global, tokens: &[Token]) -> Result<(Items<Name>, &[Token])
         let Some((name, _, after)) = take_name(rest) else {
             return Err(Refused::Syntax(rest));
         };
-        let Ok(name) = name.copy(alloc) else {
-            return Err(Refused::NoMemory);
+        let name = match name.copy(alloc) {
+            Ok(copy) => copy,
+            Err(_) => return Err(Refused::NoMemory),
         };
-        if names.push(name).is_err() {
-            return Err(Refused::NoMemory);
+        match names.push(name) {
+            Ok(()) => {}
+            Err(_) => return Err(Refused::NoMemory),
         }
         match take_word(COMMA, after) {
             Some((_, behind)) => rest = behind,

@@ -1,11 +1,16 @@
 //! The flags of an object.
 
 ghost use Rattle.std.specs.Prelude.{◌≡◌, ◌<◌, length};
-ghost use Rattle.obq_parts.specs.Objects.{FlaggedHead, HeadOf, IsShorterHead};
+ghost use Rattle.obq_parts.specs.Objects.{BothHead, FlaggedHead, HeadOf, IsShorterHead};
 
 use crate::steps::{Word, take_word};
-use crate::words::{CLOSE_BRACE, COMMA, PROTECTED, SERIALIZED};
+use crate::words::{CLOSE_BRACE, COMMA};
 use obq_base::{Flags, Token};
+
+// Rows of the table of keywords.
+const PROTECTED: u32 = 24;
+
+const SERIALIZED: u32 = 28;
 
 /// What an object begins with, behind its opening brace.
 pub enum ObjectHead<'a> {
@@ -36,8 +41,7 @@ fn read_both_flags(tokens: &[Token]) -> ObjectHead<'_>
 }
 
 /// Behind the first flag; `other` is the other one, which may follow.
-fn read_flagged(one: Flags, other: Word, tokens: &[Token]) -> ObjectHead<'_>
-    requires { IsFlag other one }
+fn read_flagged(one: Flags, other: u32, tokens: &[Token]) -> ObjectHead<'_>
     ensures head { FlaggedHead other one tokens.now result }
     ensures shorter { IsShorterHead tokens.now result }
 {
@@ -47,7 +51,7 @@ fn read_flagged(one: Flags, other: Word, tokens: &[Token]) -> ObjectHead<'_>
     let Some((_, rest)) = take_word(COMMA, tokens) else {
         return ObjectHead::Fault(tokens);
     };
-    match take_word(other, rest) {
+    match take_word(Word::Keyword(other), rest) {
         Some((_, behind)) => read_both_flags(behind),
         None => ObjectHead::Fields(one, rest),
     }
@@ -65,14 +69,14 @@ pub fn read_object_head(tokens: &[Token]) -> ObjectHead<'_>
     if let Some((_, rest)) = take_word(CLOSE_BRACE, tokens) {
         return ObjectHead::Closed(none, rest);
     }
-    if let Some((_, rest)) = take_word(PROTECTED, tokens) {
+    if let Some((_, rest)) = take_word(Word::Keyword(PROTECTED), tokens) {
         let one = Flags {
             protected: true,
             serialized: false,
         };
         return read_flagged(one, SERIALIZED, rest);
     }
-    if let Some((_, rest)) = take_word(SERIALIZED, tokens) {
+    if let Some((_, rest)) = take_word(Word::Keyword(SERIALIZED), tokens) {
         let one = Flags {
             protected: false,
             serialized: true,

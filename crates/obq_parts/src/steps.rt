@@ -3,7 +3,7 @@
 ghost use Rattle.std.specs.Prelude.{◌≡◌, ◌∷◌, IsTrue, ◌↔◌, MatchOption};
 ghost use Rattle.obq_base.specs.declared.tokens.TokenKind.TheVariants as kind;
 ghost use Rattle.obq_model.specs.Nodes.{next, place, token};
-ghost use Rattle.obq_grammar.specs.Follow.{among, is_word, suffix_words, BeginsName, EndsBlock, EndsItem, EndsProgram, EndsSuffixed, No};
+ghost use Rattle.obq_grammar.specs.Follow.{among, is_word, suffix_words, BeginsName, EndsBlock, EndsExpr, EndsItem, EndsProgram, EndsSuffixed, No};
 ghost use Rattle.obq_parts.specs.Reads.{kind_of, Ended};
 
 use obq_base::{Name, Token, TokenKind};
@@ -85,6 +85,20 @@ pub fn ends_item(tokens: &[Token]) -> bool
     }
 }
 
+/// Whether the next token may stand behind an expression.
+pub fn ends_expr(tokens: &[Token]) -> bool
+    ensures { IsTrue result ↔ EndsExpr (next tokens.now) }
+{
+    match tokens.first() {
+        Some(token) => match &token.kind {
+            TokenKind::Keyword(row) => !matches!(*row, 1 | 15 | 16 | 22),
+            TokenKind::Symbol(row) => !matches!(*row, 0 | 1 | 2 | 4 | 5 | 7 | 8 | 9 | 12 | 13 | 16 | 17 | 18),
+            _ => true,
+        },
+        None => true,
+    }
+}
+
 /// Whether the end of the source stands next.
 pub fn is_end(tokens: &[Token]) -> bool
     ensures { IsTrue result ↔ EndsProgram (next tokens.now) }
@@ -110,7 +124,7 @@ pub fn begins_suffix(tokens: &[Token]) -> bool
 
 /// What was read, where its item ends behind it.
 pub fn ended<'a, T: Drop>(read: Result<(T, &'a [Token]), Refused<'a>>) -> Result<(T, &'a [Token]), Refused<'a>>
-    ensures { Ended read result }
+    ensures { Ended read.entry result }
 {
     match read {
         Ok((value, rest)) => {
