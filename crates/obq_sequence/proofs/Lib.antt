@@ -8,3 +8,4 @@ pub mod Lets
 pub mod Suffixes
 pub mod Objects
 pub mod Stops
+pub mod Levels
