@@ -1,6 +1,6 @@
 -- Operands and operators of each level, and expressions. `IsRest l` is what makes an expression of an operand of level l.
 -- The names are as in `Bindings`; `rest_at_1` is of the links of level l, `rest_at_2` of what stands behind them.
-use Rattle.std.proofs.Common.{◌≡◌, ℕ, zero, suc, List, [], ◌∷◌, ◌++◌, refl, sym, subst, arith, ◌<◌, ◌≤◌, ◌+◌, ◌-◌}
+use Rattle.std.proofs.Common.{◌≡◌, ℕ, zero, suc, List, [], ◌∷◌, ◌++◌, refl, sym, subst, ap, arith, ◌<◌, ◌≤◌, ◌+◌, ◌-◌}
 use Rattle.obq_base.specs.declared.tokens.Token.{Token}
 use Rattle.obq_base.specs.declared.tokens.TokenKind.{TokenKind}
 use Rattle.obq_base.specs.declared.tokens.TokenKind.TheVariants as k
@@ -12,12 +12,15 @@ use Rattle.obq_model.specs.Nodes.{token, next, link}
 use Rattle.obq_model.specs.Grammar.{Operates, IsExpr, IsLevel, IsLinks, IsSuffixed, expr, operand, level, no_link, one_link, chain}
 use Rattle.obq_grammar.specs.Fails.{Cut, here, there, Fails}
 use Rattle.obq_grammar.specs.Follow.{Anything, EndsSuffixed, EndsLevel, EndsExpr}
-use Rattle.obq_grammar.proofs.Theory.{Good, Leads, step, move}
-use Rattle.obq_grammar.proofs.Sets.{one_operator, continues_on}
+use Rattle.obq_grammar.proofs.Theory.{Good, trans, Leads, step, move}
+use Rattle.obq_grammar.proofs.Sets.{one_operator, continues_on, expr_suffixed, no_open, suffixed_dotted}
 use Rattle.obq_grammar.proofs.Firsts.{before_links}
 use Rattle.obq_grammar.proofs.Goods.{good_level, good_links}
+use Rattle.obq_grammar.proofs.Unique.{unique_links}
+use Rattle.obq_grammar.proofs.Local.{local_links}
 use Rattle.obq_sequence.specs.Parts.{IsOperator, the_operator, Then, then_, IsChain, IsRest, top, rise}
 use Rattle.obq_sequence.proofs.Sequences.{Behind, anything, then_behind, first, second, production, renamed}
+use Rattle.obq_grammar.proofs.Local.{Keeps, kept}
 use Rattle.obq_sequence.proofs.Beginnings.{some_level, links_behind}
 use Rattle.obq_sequence.proofs.Suffixes.{good_chain}
 
@@ -95,11 +98,11 @@ rest_small : {l : ℕ} {x r : List Token} → IsRest l tt x r → l ≤ 5
 rest_small top = omega arith
 rest_small (rise h p q) = omega (arith, h)
 
-rest_before : {l : ℕ} {x r : List Token} → IsRest l tt x r → EndsExpr (next r) → EndsLevel l (next x)
+pub rest_before : {l : ℕ} {x r : List Token} → IsRest l tt x r → EndsExpr (next r) → EndsLevel l (next x)
 rest_before top h = h
 rest_before (rise l p q) h = before_links p (rest_before q h)
 
-rest_up : (m l : ℕ) (r : List Token) → m + l ≡ 5 → IsRest l tt r r
+pub rest_up : (m l : ℕ) (r : List Token) → m + l ≡ 5 → IsRest l tt r r
 rest_up zero l r e = let f : 5 ≡ l = omega (arith, e) in subst (λ (n : ℕ). IsRest n tt r r) f top
 rest_up (suc m) l r e = let h : l < 5 = omega (arith, e) in let f : m + suc l ≡ 5 = omega (arith, e) in rise h no_link (rest_up m (suc l) r f)
 
@@ -134,7 +137,7 @@ lowered (level p ls) q = let k : _ < 5 = omega (arith, rest_small q) in lowered 
 rest_expr_split : {a : Expr} {y s : List Token} → IsExpr a y s → (b : Unit {0}) × (Then IsChain (IsRest 0)) b y s
 rest_expr_split (expr p) = (_, lowered p top)
 
-rest_expr_join : {b : Unit {0}} {y s : List Token} → (Then IsChain (IsRest 0)) b y s → (a : Expr) × IsExpr a y s
+pub rest_expr_join : {b : Unit {0}} {y s : List Token} → (Then IsChain (IsRest 0)) b y s → (a : Expr) × IsExpr a y s
 rest_expr_join (then_ p q) = let w = raised (operand p) q in (w.0, expr w.1)
 
 chain_rest_fails : {S : TokenKind → Type 0} {x z : List Token} → Fails (Then IsChain (IsRest 0)) S x z → Fails IsExpr S x z
@@ -146,3 +149,31 @@ expr_chain f = let k : 0 ≤ 5 = omega arith in chain_rest_fails (first (rest_be
 
 pub expr_rest : {h : Expr} {ss : List Suffix} {x x1 z : List Token} → IsSuffixed h ss x x1 → EndsSuffixed (next x1) → Fails (IsRest 0) EndsExpr x1 z → Fails IsExpr EndsExpr x z
 expr_rest {h = h} {ss = ss} p e f = let k : 0 ≤ 5 = omega arith in chain_rest_fails (second {a = (h, ss)} good_chain (rest_behind k) p e f)
+
+links_of_level : {l m : ℕ} {ls : List Link} {y r : List Token} → l ≡ m → IsLinks m ls y r → IsLinks l ls y r
+links_of_level {ls = ls} {y = y} {r = r} e p = subst (λ (j : ℕ). IsLinks j ls y r) (sym e) p
+
+ends_of_level : {l m : ℕ} (kind : TokenKind) → l ≡ m → EndsLevel m kind → EndsLevel l kind
+ends_of_level kind e h = subst (λ (j : ℕ). EndsLevel j kind) (sym e) h
+
+rest_one : {l m : ℕ} {x r s : List Token} → l ≡ m → IsRest l tt x r → EndsExpr (next r) → IsRest m tt x s → EndsExpr (next s) → r ≡ s
+rest_one e top h top k = refl
+rest_one e top h (rise l p q) k = absurd (omega (arith, e, l))
+rest_one e (rise l p q) h top k = absurd (omega (arith, e, l))
+rest_one e (rise l p q) h (rise {l = m} {y = y} {r = r} i t u) k =
+    let f = ap (λ (j : ℕ). suc j) e in
+    let w = unique_links p (rest_before q h) _ _ (links_of_level e t) (ends_of_level (next y) f (rest_before u k)) in
+    rest_one f q h (move (IsRest (suc m)) tt _ y r w.1 u) k
+
+local_rest : {l : ℕ} {x r : List Token} → IsRest l tt x r → (v : List Token) → Keeps r v → (y : List Token) × Cut x r y v × IsRest l tt y v
+local_rest top v g = (v, here, top)
+local_rest (rise h p q) v g = let m = local_rest q v g in let n = local_links p m.0 (kept m.1 g) in (n.1, trans n.2 m.1, rise h n.3 m.2)
+
+pub good_rest : {l : ℕ} → Good (IsRest l) EndsExpr
+good_rest = record {
+  unique = λ a b x r s p h q i. (refl, rest_one refl p h q i);
+  local = λ a x r p v h. let w = local_rest p v (λ g. no_open (next v) (suffixed_dotted (next v) (expr_suffixed (next v) h))) in (tt, w.0, w.1, w.2);
+}
+
+pub chain_expr : {h : Expr} {ss : List Suffix} {x r : List Token} → IsSuffixed h ss x r → (v : Expr) × IsExpr v x r
+chain_expr {h = h} {ss = ss} {r = r} p = let e : 5 + 0 ≡ 5 = omega arith in rest_expr_join (then_ {a = (h, ss)} p (rest_up 5 0 r e))

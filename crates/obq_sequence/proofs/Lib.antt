@@ -9,3 +9,4 @@ pub mod Suffixes
 pub mod Objects
 pub mod Stops
 pub mod Levels
+pub mod Targets
