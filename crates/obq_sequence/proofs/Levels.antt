@@ -16,7 +16,7 @@ use Rattle.obq_grammar.proofs.Theory.{Good, trans, Leads, step, move}
 use Rattle.obq_grammar.proofs.Sets.{one_operator, continues_on, expr_suffixed, no_open, suffixed_dotted}
 use Rattle.obq_grammar.proofs.Firsts.{before_links}
 use Rattle.obq_grammar.proofs.Goods.{good_level, good_links}
-use Rattle.obq_grammar.proofs.Unique.{unique_links}
+use Rattle.obq_grammar.proofs.Unique.{unique_suffixed, unique_links}
 use Rattle.obq_grammar.proofs.Local.{local_links}
 use Rattle.obq_sequence.specs.Parts.{IsOperator, the_operator, Then, then_, IsChain, IsRest, top, rise}
 use Rattle.obq_sequence.proofs.Sequences.{Behind, anything, then_behind, first, second, production, renamed}
@@ -174,6 +174,11 @@ good_rest = record {
   unique = λ a b x r s p h q i. (refl, rest_one refl p h q i);
   local = λ a x r p v h. let w = local_rest p v (λ g. no_open (next v) (suffixed_dotted (next v) (expr_suffixed (next v) h))) in (tt, w.0, w.1, w.2);
 }
+
+pub rest_of_expr : {h v : Expr} {ss : List Suffix} {x y r : List Token} → IsSuffixed h ss x y → EndsSuffixed (next y) → IsExpr v x r → EndsExpr (next r) → IsRest 0 tt y r
+rest_of_expr c u (expr p) h = behind_chain c u (lowered p top) h where
+  behind_chain : {g : Expr} {ts : List Suffix} {x y r : List Token} → IsSuffixed g ts x y → EndsSuffixed (next y) → (Then IsChain (IsRest 0)) tt x r → EndsExpr (next r) → IsRest 0 tt y r
+  behind_chain c u (then_ d q) h = let m = unique_suffixed c u d (rest_before q h) in move (IsRest 0) tt _ _ _ m.2 q
 
 pub chain_expr : {h : Expr} {ss : List Suffix} {x r : List Token} → IsSuffixed h ss x r → (v : Expr) × IsExpr v x r
 chain_expr {h = h} {ss = ss} {r = r} p = let e : 5 + 0 ≡ 5 = omega arith in rest_expr_join (then_ {a = (h, ss)} p (rest_up 5 0 r e))

@@ -10,3 +10,5 @@ pub mod Objects
 pub mod Stops
 pub mod Levels
 pub mod Targets
+pub mod Items
+pub mod Programs

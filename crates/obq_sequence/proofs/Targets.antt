@@ -8,7 +8,7 @@ use Rattle.obq_base.specs.declared.trees.Expr.{Expr}
 use Rattle.obq_base.specs.declared.trees.Suffix.{Suffix}
 use Rattle.obq_model.specs.Words.{sym_open, sym_dot, sym_assign, sym_open_bracket, sym_close_bracket}
 use Rattle.obq_model.specs.Nodes.{token, next, place}
-use Rattle.obq_model.specs.Grammar.{IsNoOpen, IsItem, IsFieldBody, IsExpr, IsSuffixed, IsSuffixes, IsSuffix, IsCall, IsPrim, let_, var, assign, set_field, set_item, plain, expr, chain, no_suffix, one_suffix, apply, dotted, index, select, invoke, name}
+use Rattle.obq_model.specs.Grammar.{IsNoOpen, IsItem, IsFieldBody, IsExpr, IsSuffixed, IsSuffixes, IsSuffix, IsCall, IsPrim, let_, var, assign, set_field, set_item, plain, proc, expr, chain, no_suffix, one_suffix, apply, dotted, index, select, invoke, int, text, true_, false_, ok, name, proc_of, paren, array, object, if_, loop_, exit, for, foreach, try, raise, watch, redirect, clone}
 use Rattle.obq_grammar.specs.Fails.{Cut, here, there}
 use Rattle.obq_grammar.specs.Follow.{EndsSuffixed, EndsItem, BeginsName}
 use Rattle.obq_grammar.proofs.Theory.{trans, upto, as_tree, behind}
@@ -217,6 +217,28 @@ item_before {h = h} ss v p c =
     let m = unsnoc_chain ss c in
     let f = as_index m.2 refl in
     (f.0, f.1, upto (IsSuffixed h) f.2 m.1, f.3)
+
+pub bare_name : {h : Expr} {n : List ℕ} {x r : List Token} → IsPrim h x r → next x ≡ k.Name n → (p : ℕ) × (x ≡ token (k.Name n) p ∷ r)
+bare_name int e = cc
+bare_name text e = cc
+bare_name true_ e = cc
+bare_name false_ e = cc
+bare_name ok e = cc
+bare_name (name {p = p}) e = (p, cc)
+bare_name (proc_of (proc a b)) e = cc
+bare_name (paren a) e = cc
+bare_name (array a) e = cc
+bare_name (object a) e = cc
+bare_name (if_ a b c) e = cc
+bare_name (loop_ a) e = cc
+bare_name exit e = cc
+bare_name (for a b c) e = cc
+bare_name (foreach a b) e = cc
+bare_name (try a b) e = cc
+bare_name (raise a) e = cc
+bare_name (watch a b) e = cc
+bare_name (redirect a b) e = cc
+bare_name (clone a) e = cc
 
 pub ended_bare : {h : Expr} {x r : List Token} → IsSuffixed h [] x r → Ended 0 x r
 ended_bare (chain p no_suffix) = bare p
