@@ -1,8 +1,8 @@
 -- Items that begin with a chain of suffixes, which is read first. Behind it stands a `:=` or it doesn't.
 -- `plain_at_1`: the chain fails; `plain_at_2`: what makes an expression of it fails; `plain_end`: the expression ends where no item does.
 -- `assign_at_3`, `set_field_at_3`, `set_item_at_3`: behind the chain and its `:=` (or a name and its `:=`), what is set fails; `C_end` as in `Bindings`.
--- `bare_no_target`, `apply_no_target`, `invoke_no_target`: the `:=` stands behind something else.
-use Rattle.std.proofs.Common.{◌≡◌, ℕ, List, [], ◌∷◌, ◌++◌, refl, sym, subst, ap, ◌∙◌, arith}
+-- `no_target_fails`: the `:=` stands behind something else.
+use Rattle.std.proofs.Common.{◌≡◌, ℕ, List, [], ◌∷◌, ◌++◌, refl, sym, subst, ap, ◌∙◌}
 use Rattle.obq_base.specs.declared.tokens.Token.{Token}
 use Rattle.obq_base.specs.declared.tokens.TokenKind.{TokenKind}
 use Rattle.obq_base.specs.declared.tokens.TokenKind.TheVariants as k
@@ -25,7 +25,7 @@ use Rattle.obq_sequence.specs.Parts.{then_, IsChain, IsRest}
 use Rattle.obq_sequence.proofs.Sequences.{also}
 use Rattle.obq_grammar.proofs.Chains.{unwind, tail_ends, name_field, name_item, assigned}
 use Rattle.obq_sequence.proofs.Levels.{rest_before, rest_expr_join, good_rest, chain_expr, rest_of_expr}
-use Rattle.obq_sequence.proofs.Targets.{Ended, selected, indexed, bare_name, local_ended, chain_of, target_of, assigned_field, assigned_item, not_assigned_to, field_set, item_set, field_before, item_before, ended_bare, ended_field, ended_item, ended_application, ended_invocation, Assigned}
+use Rattle.obq_sequence.proofs.Targets.{Ended, selected, indexed, bare_name, local_ended, chain_of, target_of, assigned_field, assigned_item, not_assigned_to, field_set, item_set, field_before, item_before, ended_field, ended_item, ended_of, no_suffixes, last_selection, last_index, Assigned}
 use Rattle.obq_sequence.proofs.Stops.{headed}
 use Rattle.obq_base.specs.declared.trees.Item.TheVariants as i
 use Rattle.obq_base.specs.declared.trees.Expr.TheVariants as e
@@ -109,9 +109,14 @@ assign_end e1 e2 p3 h3 c = at (also e1 e2) (assign_fails (narrow good_expr item_
 pub assign_of : {n : List ℕ} {v : Expr} {p q : ℕ} {x x1 x2 r : List Token} → x ≡ token (k.Name n) p ∷ x1 → x1 ≡ token sym_assign q ∷ x2 → IsExpr v x2 r → IsItem (i.Assign n v p) x r
 assign_of e1 e2 p3 = move IsItem _ _ _ _ (also e1 e2) (assign p3)
 
+chain_as : {h : Expr} {ts us : List Suffix} {x r : List Token} → IsSuffixed h ts x r → ts ≡ us → IsSuffixed h us x r
+chain_as {h = h} {x = x} {r = r} c l = subst (λ (n : List Suffix). IsSuffixed h n x r) l c
+
 -- a chain that is a name alone
-pub name_of_bare : {h : Expr} {n : List ℕ} {x r : List Token} → IsSuffixed h [] x r → next x ≡ k.Name n → (p : ℕ) × (x ≡ token (k.Name n) p ∷ r)
-name_of_bare (chain p no_suffix) e = bare_name p e
+pub name_target : {h : Expr} {ts : List Suffix} {n : List ℕ} {p : ℕ} {x y r : List Token} → IsSuffixed h ts x r → ts ≡ [] → x ≡ token (k.Name n) p ∷ y → x ≡ token (k.Name n) p ∷ r
+name_target c l e = from_bare (chain_as c l) e where
+  from_bare : {h : Expr} {n : List ℕ} {p : ℕ} {x y r : List Token} → IsSuffixed h [] x r → x ≡ token (k.Name n) p ∷ y → x ≡ token (k.Name n) p ∷ r
+  from_bare (chain d no_suffix) e = also e (ap behind (sym e ∙ (bare_name d (ap next e)).1))
 
 -- another target and its `:=`
 
@@ -140,23 +145,23 @@ field_fails ss n p c e = target_fails (ended_at e (ended_field ss n p c)) (λ w 
 item_fails : {h : Expr} {q : ℕ} {x x1 x2 z : List Token} (ss : List Suffix) (j : Expr) (p : ℕ) → IsSuffixed h (ss ++ s.Index j p ∷ []) x x1 → x1 ≡ token sym_assign q ∷ x2 → Fails IsExpr EndsItem x2 z → Fails IsItem EndsItem x z
 item_fails ss j p c e = target_fails (ended_at e (ended_item ss j p c)) (λ w l s a. assigned_item a refl) (λ b w l s m f. item_set m refl f)
 
-pub set_field_at_3 : {h : Expr} {q : ℕ} {x x1 x2 z : List Token} (ss : List Suffix) (n : List ℕ) (p : ℕ) → IsSuffixed h (ss ++ s.Select n p ∷ []) x x1 → x1 ≡ token sym_assign q ∷ x2 → Fails IsFieldBody EndsExpr x2 z → Fails IsItem EndsItem x z
-set_field_at_3 ss n p c e f = field_fails ss n p c e (fewer item_expr f)
+pub set_field_at_3 : {h : Expr} {ts : List Suffix} {q : ℕ} {x x1 x2 z : List Token} (ss : List Suffix) (n : List ℕ) (p : ℕ) → IsSuffixed h ts x x1 → ts ≡ ss ++ s.Select n p ∷ [] → x1 ≡ token sym_assign q ∷ x2 → Fails IsFieldBody EndsExpr x2 z → Fails IsItem EndsItem x z
+set_field_at_3 ss n p c l e f = field_fails ss n p (chain_as c l) e (fewer item_expr f)
 
-pub set_field_end : {h : Expr} {b : FieldExpr} {q : ℕ} {x x1 x2 x3 : List Token} (ss : List Suffix) (n : List ℕ) (p : ℕ) → IsSuffixed h (ss ++ s.Select n p ∷ []) x x1 → x1 ≡ token sym_assign q ∷ x2 → IsFieldBody b x2 x3 → EndsExpr (next x3) → (EndsItem (next x3) → ⊥) → Fails IsItem EndsItem x x3
-set_field_end ss n p c e p3 h3 f = field_fails ss n p c e (narrow good_field_body item_expr p3 h3 f)
+pub set_field_end : {h : Expr} {ts : List Suffix} {b : FieldExpr} {q : ℕ} {x x1 x2 x3 : List Token} (ss : List Suffix) (n : List ℕ) (p : ℕ) → IsSuffixed h ts x x1 → ts ≡ ss ++ s.Select n p ∷ [] → x1 ≡ token sym_assign q ∷ x2 → IsFieldBody b x2 x3 → EndsExpr (next x3) → (EndsItem (next x3) → ⊥) → Fails IsItem EndsItem x x3
+set_field_end ss n p c l e p3 h3 f = field_fails ss n p (chain_as c l) e (narrow good_field_body item_expr p3 h3 f)
 
-pub set_field_of : {h : Expr} {b : FieldExpr} {q : ℕ} {x x1 x2 r : List Token} (ss : List Suffix) (n : List ℕ) (p : ℕ) → IsSuffixed h (ss ++ s.Select n p ∷ []) x x1 → x1 ≡ token sym_assign q ∷ x2 → IsFieldBody b x2 r → IsItem (i.SetField (suffixed h ss) n b (place x)) x r
-set_field_of {h = h} ss n p c e f = let m = field_before ss n p (upto (IsSuffixed h) e c) in set_field m.1 f
+pub set_field_of : {h : Expr} {ts : List Suffix} {b : FieldExpr} {q : ℕ} {x x1 x2 r : List Token} (ss : List Suffix) (n : List ℕ) (p : ℕ) → IsSuffixed h ts x x1 → ts ≡ ss ++ s.Select n p ∷ [] → x1 ≡ token sym_assign q ∷ x2 → IsFieldBody b x2 r → IsItem (i.SetField (suffixed h ss) n b (place x)) x r
+set_field_of {h = h} ss n p c l e f = let m = field_before ss n p (upto (IsSuffixed h) e (chain_as c l)) in set_field m.1 f
 
-pub set_item_at_3 : {h : Expr} {q : ℕ} {x x1 x2 z : List Token} (ss : List Suffix) (j : Expr) (p : ℕ) → IsSuffixed h (ss ++ s.Index j p ∷ []) x x1 → x1 ≡ token sym_assign q ∷ x2 → Fails IsExpr EndsExpr x2 z → Fails IsItem EndsItem x z
-set_item_at_3 ss j p c e f = item_fails ss j p c e (fewer item_expr f)
+pub set_item_at_3 : {h : Expr} {ts : List Suffix} {q : ℕ} {x x1 x2 z : List Token} (ss : List Suffix) (j : Expr) (p : ℕ) → IsSuffixed h ts x x1 → ts ≡ ss ++ s.Index j p ∷ [] → x1 ≡ token sym_assign q ∷ x2 → Fails IsExpr EndsExpr x2 z → Fails IsItem EndsItem x z
+set_item_at_3 ss j p c l e f = item_fails ss j p (chain_as c l) e (fewer item_expr f)
 
-pub set_item_end : {h v : Expr} {q : ℕ} {x x1 x2 x3 : List Token} (ss : List Suffix) (j : Expr) (p : ℕ) → IsSuffixed h (ss ++ s.Index j p ∷ []) x x1 → x1 ≡ token sym_assign q ∷ x2 → IsExpr v x2 x3 → EndsExpr (next x3) → (EndsItem (next x3) → ⊥) → Fails IsItem EndsItem x x3
-set_item_end ss j p c e p3 h3 f = item_fails ss j p c e (narrow good_expr item_expr p3 h3 f)
+pub set_item_end : {h v : Expr} {ts : List Suffix} {q : ℕ} {x x1 x2 x3 : List Token} (ss : List Suffix) (j : Expr) (p : ℕ) → IsSuffixed h ts x x1 → ts ≡ ss ++ s.Index j p ∷ [] → x1 ≡ token sym_assign q ∷ x2 → IsExpr v x2 x3 → EndsExpr (next x3) → (EndsItem (next x3) → ⊥) → Fails IsItem EndsItem x x3
+set_item_end ss j p c l e p3 h3 f = item_fails ss j p (chain_as c l) e (narrow good_expr item_expr p3 h3 f)
 
-pub set_item_of : {h v : Expr} {q : ℕ} {x x1 x2 r : List Token} (ss : List Suffix) (j : Expr) (p : ℕ) → IsSuffixed h (ss ++ s.Index j p ∷ []) x x1 → x1 ≡ token sym_assign q ∷ x2 → IsExpr v x2 r → IsItem (i.SetItem (suffixed h ss) j v (place x)) x r
-set_item_of {h = h} ss j p c e f = let m = item_before ss j p (upto (IsSuffixed h) e c) in set_item m.2 m.3 f
+pub set_item_of : {h v : Expr} {ts : List Suffix} {q : ℕ} {x x1 x2 r : List Token} (ss : List Suffix) (j : Expr) (p : ℕ) → IsSuffixed h ts x x1 → ts ≡ ss ++ s.Index j p ∷ [] → x1 ≡ token sym_assign q ∷ x2 → IsExpr v x2 r → IsItem (i.SetItem (suffixed h ss) j v (place x)) x r
+set_item_of {h = h} ss j p c l e f = let m = item_before ss j p (upto (IsSuffixed h) e (chain_as c l)) in set_item m.2 m.3 f
 
 -- no target
 
@@ -176,11 +181,7 @@ no_target {x = x} {y = y} m e to_bare to_one to_other = record {
       (_, n.0, r, n.1, plain p.1);
 }
 
-pub bare_no_target : {h : Expr} {q : ℕ} {x x1 x2 : List Token} → IsSuffixed h [] x x1 → x1 ≡ token sym_assign q ∷ x2 → (BeginsName (next x) → ⊥) → Fails IsItem EndsItem x x1
-bare_no_target c e n = no_target (ended_bare c) e (λ k b. n b) (λ k. absurd (omega (arith, k))) (λ k. absurd (omega (arith, k)))
-
-pub apply_no_target : {h : Expr} {q : ℕ} {x x1 x2 : List Token} (ss : List Suffix) (vs : List Expr) (p : ℕ) → IsSuffixed h (ss ++ s.Apply vs p ∷ []) x x1 → x1 ≡ token sym_assign q ∷ x2 → Fails IsItem EndsItem x x1
-apply_no_target ss vs p c e = no_target (ended_application ss vs p c) e (λ k b. absurd (omega (arith, k))) (λ k. absurd (omega (arith, k))) (λ k. absurd (omega (arith, k)))
-
-pub invoke_no_target : {h : Expr} {q : ℕ} {x x1 x2 : List Token} (ss : List Suffix) (n : List ℕ) (vs : List Expr) (p : ℕ) → IsSuffixed h (ss ++ s.Invoke n vs p ∷ []) x x1 → x1 ≡ token sym_assign q ∷ x2 → Fails IsItem EndsItem x x1
-invoke_no_target ss n vs p c e = no_target (ended_invocation ss n vs p c) e (λ k b. absurd (omega (arith, k))) (λ k. absurd (omega (arith, k))) (λ k. absurd (omega (arith, k)))
+pub no_target_fails : {h : Expr} {ss : List Suffix} {q : ℕ} {x x1 x2 : List Token} → IsSuffixed h ss x x1 → x1 ≡ token sym_assign q ∷ x2 → (ss ≡ [] → BeginsName (next x) → ⊥) → ((ts : List Suffix) (n : List ℕ) (p : ℕ) → ss ≡ ts ++ s.Select n p ∷ [] → ⊥) → ((ts : List Suffix) (j : Expr) (p : ℕ) → ss ≡ ts ++ s.Index j p ∷ [] → ⊥) → Fails IsItem EndsItem x x1
+no_target_fails c e n f i =
+    let w = ended_of c in
+    no_target w.1 e (λ k. n (no_suffixes w.2 k)) (λ k. let m = last_selection w.2 k in f m.0 m.1 m.2 m.3) (λ k. let m = last_index w.2 k in i m.0 m.1 m.2 m.3)

@@ -193,18 +193,6 @@ as_index (dotted (select o)) e = cc
 as_index (dotted (invoke c)) e = cc
 as_index {v = w} (index {v = v} {q = q} {x = y} c) e = let f : w ≡ v = cc in (q, y, cc, as_tree IsExpr f c)
 
-as_application : {f : Suffix} {x r : List Token} (vs : List Expr) (p : ℕ) → IsSuffix f x r → f ≡ s.Apply vs p → (ws : List Expr) × (q : ℕ) × (y : List Token) × (x ≡ token sym_open q ∷ y) × IsCall ws y r
-as_application vs p (apply {vs = ws} {p = q} {x = y} c) e = (ws, q, y, refl, c)
-as_application vs p (dotted (select o)) e = cc
-as_application vs p (dotted (invoke c)) e = cc
-as_application vs p (index c) e = cc
-
-as_invocation : {f : Suffix} {x r : List Token} (n : List ℕ) (vs : List Expr) (p : ℕ) → IsSuffix f x r → f ≡ s.Invoke n vs p → (ws : List Expr) × (m : List ℕ) × (o : ℕ) × (q : ℕ) × (t : ℕ) × (y : List Token) × (x ≡ token sym_dot o ∷ token (k.Name m) q ∷ token sym_open t ∷ y) × IsCall ws y r
-as_invocation n vs p (apply c) e = cc
-as_invocation n vs p (dotted (select o)) e = cc
-as_invocation n vs p (dotted {p = o} {q = q} (invoke {n = m} {vs = ws} {q = t} {x = y} c)) e = (ws, m, o, q, t, y, refl, c)
-as_invocation n vs p (index c) e = cc
-
 -- a chain up to its last selection, up to its last index
 pub field_before : {h : Expr} {x r : List Token} (ss : List Suffix) (n : List ℕ) (p : ℕ) → IsSuffixed h (ss ++ s.Select n p ∷ []) x r → (q : ℕ) × IsSuffixed h ss x (token sym_dot p ∷ token (k.Name n) q ∷ r) × IsNoOpen (next r)
 field_before {h = h} ss n p c =
@@ -240,6 +228,12 @@ bare_name (watch a b) e = cc
 bare_name (redirect a b) e = cc
 bare_name (clone a) e = cc
 
+pub data HasEnd : ℕ → List Suffix → Type 0 where
+  no_end : HasEnd 0 []
+  any_selection : {ss : List Suffix} (ts : List Suffix) (n : List ℕ) (p : ℕ) → ss ≡ ts ++ s.Select n p ∷ [] → HasEnd 1 ss
+  any_index : {ss : List Suffix} (ts : List Suffix) (v : Expr) (p : ℕ) → ss ≡ ts ++ s.Index v p ∷ [] → HasEnd 2 ss
+  any_call : {ss : List Suffix} → HasEnd 3 ss
+
 pub ended_bare : {h : Expr} {x r : List Token} → IsSuffixed h [] x r → Ended 0 x r
 ended_bare (chain p no_suffix) = bare p
 
@@ -249,14 +243,36 @@ ended_field ss n p c = let m = field_before ss n p c in selected m.1 m.2
 pub ended_item : {h : Expr} {x r : List Token} (ss : List Suffix) (v : Expr) (p : ℕ) → IsSuffixed h (ss ++ s.Index v p ∷ []) x r → Ended 2 x r
 ended_item ss v p c = let m = item_before ss v p c in indexed m.2 m.3
 
-pub ended_application : {h : Expr} {x r : List Token} (ss : List Suffix) (vs : List Expr) (p : ℕ) → IsSuffixed h (ss ++ s.Apply vs p ∷ []) x r → Ended 3 x r
-ended_application {h = h} ss vs p c =
-    let m = unsnoc_chain ss c in
-    let f = as_application vs p m.2 refl in
-    applied (upto (IsSuffixed h) f.3 m.1) f.4
+-- the end of any chain
 
-pub ended_invocation : {h : Expr} {x r : List Token} (ss : List Suffix) (n : List ℕ) (vs : List Expr) (p : ℕ) → IsSuffixed h (ss ++ s.Invoke n vs p ∷ []) x r → Ended 3 x r
-ended_invocation {h = h} ss n vs p c =
-    let m = unsnoc_chain ss c in
-    let f = as_invocation n vs p m.2 refl in
-    invoked (upto (IsSuffixed h) f.6 m.1) f.7
+ended_so : {h : Expr} {ss ts : List Suffix} {f : Suffix} {x y r : List Token} → IsSuffixed h ts x y → IsSuffix f y r → ss ≡ ts ++ f ∷ [] → (c : ℕ) × Ended c x r × HasEnd c ss
+ended_so {ts = ts} c (apply a) e = (3, applied c a, any_call)
+ended_so {ts = ts} c (dotted {p = p} (select {n = n} o)) e = (1, selected c o, any_selection ts n p e)
+ended_so {ts = ts} c (dotted (invoke a)) e = (3, invoked c a, any_call)
+ended_so {ts = ts} c (index {v = v} {p = p} i) e = (2, indexed c i, any_index ts v p e)
+
+last_one : {f : Suffix} {ss : List Suffix} {x y r : List Token} → IsSuffix f x y → IsSuffixes ss y r → (ts : List Suffix) × (g : Suffix) × (w : List Token) × IsSuffixes ts x w × IsSuffix g w r × (f ∷ ss ≡ ts ++ g ∷ [])
+last_one {f = f} p no_suffix = ([], f, _, no_suffix, p, refl)
+last_one {f = f} p (one_suffix q l) = let m = last_one q l in (f ∷ m.0, m.1, m.2, one_suffix p m.3, m.4, ap (λ (l : List Suffix). f ∷ l) m.5)
+
+pub ended_of : {h : Expr} {ss : List Suffix} {x r : List Token} → IsSuffixed h ss x r → (c : ℕ) × Ended c x r × HasEnd c ss
+ended_of (chain p no_suffix) = (0, bare p, no_end)
+ended_of (chain p (one_suffix q l)) = let m = last_one q l in ended_so (chain p m.3) m.4 m.5
+
+pub no_suffixes : {c : ℕ} {ss : List Suffix} → HasEnd c ss → c ≡ 0 → ss ≡ []
+no_suffixes no_end e = refl
+no_suffixes (any_selection ts n p l) e = absurd (omega (arith, e))
+no_suffixes (any_index ts v p l) e = absurd (omega (arith, e))
+no_suffixes any_call e = absurd (omega (arith, e))
+
+pub last_selection : {c : ℕ} {ss : List Suffix} → HasEnd c ss → c ≡ 1 → (ts : List Suffix) × (n : List ℕ) × (p : ℕ) × (ss ≡ ts ++ s.Select n p ∷ [])
+last_selection no_end e = absurd (omega (arith, e))
+last_selection (any_selection ts n p l) e = (ts, n, p, l)
+last_selection (any_index ts v p l) e = absurd (omega (arith, e))
+last_selection any_call e = absurd (omega (arith, e))
+
+pub last_index : {c : ℕ} {ss : List Suffix} → HasEnd c ss → c ≡ 2 → (ts : List Suffix) × (v : Expr) × (p : ℕ) × (ss ≡ ts ++ s.Index v p ∷ [])
+last_index no_end e = absurd (omega (arith, e))
+last_index (any_selection ts n p l) e = absurd (omega (arith, e))
+last_index (any_index ts v p l) e = (ts, v, p, l)
+last_index any_call e = absurd (omega (arith, e))
