@@ -8,3 +8,7 @@ pub mod Lets
 pub mod Suffixes
 pub mod Objects
 pub mod Stops
+pub mod Levels
+pub mod Targets
+pub mod Items
+pub mod Programs

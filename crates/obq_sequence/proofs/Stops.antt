@@ -77,7 +77,7 @@ abbrev IsKeyword : TokenKind → Type 0
 IsKeyword (k.Keyword n) = Unit {0}
 IsKeyword _ = ⊥
 
-headed : (w : TokenKind) (y : List Token) → (w ≡ k.EndOfSource → ⊥) → next y ≡ w → (p : ℕ) × (ts : List Token) × (y ≡ token w p ∷ ts)
+pub headed : (w : TokenKind) (y : List Token) → (w ≡ k.EndOfSource → ⊥) → next y ≡ w → (p : ℕ) × (ts : List Token) × (y ≡ token w p ∷ ts)
 headed w [] n e = absurd (n (sym e))
 headed w (t ∷ ts) n e = (t.place, ts, ap (λ (kind : TokenKind). token kind t.place ∷ ts) e)
 
