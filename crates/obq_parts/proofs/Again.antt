@@ -18,8 +18,8 @@ use Rattle.obq_sequence.proofs.Bindings.{names_at_2, names_of, one_name_of, bind
 use Rattle.obq_sequence.proofs.Fields.{args_at_2, one_arg_of, fields_at_2, one_field_of}
 
 -- behind an expression without a comma
-pub ends_args : {x : List Token} → EndsExpr (next x) → No (is_word sym_comma (next x)) → EndsArgs (next x)
-ends_args {x = x} e n = no_both (is_word sym_comma (next x)) (continues 5 (next x)) n e
+pub ends_args : (x : List Token) → EndsExpr (next x) → No (is_word sym_comma (next x)) → EndsArgs (next x)
+ends_args x e n = no_both (is_word sym_comma (next x)) (continues 5 (next x)) n e
 
 names_more : {a : List (List ℕ)} {p : ℕ} {x y r : List Token} → IsNames a y r → x ≡ token sym_comma p ∷ y → IsMoreNames a x r
 names_more (names m) e = one_name_of e refl m

@@ -1,7 +1,13 @@
--- The words that open an expression of several parts.
-use Rattle.std.specs.Prelude.{List, [], ◌∷◌}
+-- The words that open an expression of several parts, and those that are one alone.
+use Rattle.std.specs.Prelude.{ℕ, List, [], ◌∷◌, Option, Some, None}
 use Rattle.obq_base.specs.declared.tokens.TokenKind.{TokenKind}
-use Rattle.obq_model.specs.Words.{kw_clone, kw_for, kw_foreach, kw_if, kw_loop, kw_proc, kw_raise, kw_redirect, kw_try, kw_watch, sym_open, sym_open_bracket, sym_open_brace}
+use Rattle.obq_base.specs.declared.tokens.TokenKind.TheVariants as k
+use Rattle.obq_base.specs.declared.tokens.Token.{Token}
+use Rattle.obq_base.specs.declared.trees.Expr.{Expr}
+use Rattle.obq_model.specs.Nodes.{token}
+use Rattle.obq_model.specs.Grammar.{IsPrim}
+use Rattle.obq_grammar.specs.Follow.{among, No}
+use Rattle.obq_model.specs.Words.{kw_clone, kw_exit, kw_false, kw_ok, kw_true, kw_for, kw_foreach, kw_if, kw_loop, kw_proc, kw_raise, kw_redirect, kw_try, kw_watch, sym_open, sym_open_bracket, sym_open_brace}
 use Rattle.obq_parts.specs.declared.openings.Opening.{Opening}
 use Rattle.obq_parts.specs.declared.openings.Opening.TheVariants as o
 
@@ -22,3 +28,10 @@ opening_kind o.Brace = sym_open_brace
 
 abbrev pub openings : List TokenKind
 openings = kw_clone ∷ kw_for ∷ kw_foreach ∷ kw_if ∷ kw_loop ∷ kw_proc ∷ kw_raise ∷ kw_redirect ∷ kw_try ∷ kw_watch ∷ sym_open ∷ sym_open_bracket ∷ sym_open_brace ∷ []
+
+abbrev pub literals : List TokenKind
+literals = kw_true ∷ kw_false ∷ kw_ok ∷ kw_exit ∷ []
+
+abbrev pub IsWordLiteral : ℕ → ℕ → Option Expr → Type 0
+IsWordLiteral row p (Some v) = (r : List Token) → IsPrim v (token (k.Keyword row) p ∷ r) r
+IsWordLiteral row p None = No (among literals (k.Keyword row))

@@ -1,6 +1,6 @@
 //! The words that open an expression of several parts.
 
-ghost use Rattle.std.specs.Prelude.{◌≡◌, ◌∷◌, MatchOption};
+ghost use Rattle.std.specs.Prelude.{◌≡◌, ◌∷◌, ◌<◌, IfSome, MatchOption, length};
 ghost use Rattle.obq_model.specs.Nodes.{next, token};
 ghost use Rattle.obq_grammar.specs.Follow.{among, No};
 ghost use Rattle.obq_parts.specs.Openings.{opening_kind, openings};
@@ -48,7 +48,8 @@ fn opening_of(kind: &TokenKind) -> Option<Opening>
 
 /// A word that opens an expression, its place and the tokens behind it.
 pub fn take_opening(tokens: &[Token]) -> Option<(Opening, u32, &[Token])>
-    ensures { MatchOption result (No (among openings (next tokens.now))) (λ found. tokens.now ≡ token (opening_kind found.0) found.1 ∷ found.2.now) }
+    ensures found { MatchOption result (No (among openings (next tokens.now))) (λ found. tokens.now ≡ token (opening_kind found.0) found.1 ∷ found.2.now) }
+    ensures shorter { IfSome result (λ found. length found.2.now < length tokens.now) }
 {
     let (token, rest) = tokens.split_first()?;
     match opening_of(&token.kind) {

@@ -1,6 +1,6 @@
 //! Operators.
 
-ghost use Rattle.std.specs.Prelude.{◌≡◌, ◌<◌, ◌∷◌, MatchOption};
+ghost use Rattle.std.specs.Prelude.{◌≡◌, ◌<◌, ◌∷◌, IfSome, MatchOption, length};
 ghost use Rattle.obq_model.specs.Grammar.{Operates};
 ghost use Rattle.obq_model.specs.Nodes.{next, token};
 ghost use Rattle.obq_grammar.specs.Follow.{among, operators, No};
@@ -52,7 +52,8 @@ fn operator_of(level: u32, kind: &TokenKind) -> Option<Operator>
 
 /// An operator of a level, its place and the tokens behind it.
 pub fn take_operator(level: u32, tokens: &[Token]) -> Option<(Operator, u32, &[Token])>
-    ensures { TakesOperator level tokens.now result }
+    ensures found { TakesOperator level tokens.now result }
+    ensures shorter { IfSome result (λ found. length found.2.now < length tokens.now) }
 {
     let (token, rest) = tokens.split_first()?;
     match operator_of(level, &token.kind) {

@@ -1,6 +1,6 @@
 //! What stands next.
 
-ghost use Rattle.std.specs.Prelude.{◌≡◌, ◌∷◌, IsTrue, ◌↔◌, MatchOption};
+ghost use Rattle.std.specs.Prelude.{◌≡◌, [], ◌∷◌, ◌<◌, ◌↔◌, IfSome, IsTrue, MatchOption, length};
 ghost use Rattle.obq_base.specs.declared.tokens.TokenKind.TheVariants as kind;
 ghost use Rattle.obq_model.specs.Nodes.{next, place, token};
 ghost use Rattle.obq_grammar.specs.Follow.{among, is_word, suffix_words, BeginsName, EndsBlock, EndsExpr, EndsItem, EndsProgram, EndsSuffixed, No};
@@ -23,9 +23,19 @@ pub enum Word {
     Symbol(u32),
 }
 
+/// The kind of the next token, its place and the tokens behind it.
+pub fn take_any(tokens: &[Token]) -> Option<(&TokenKind, u32, &[Token])>
+    ensures found { MatchOption result (tokens.now ≡ []) (λ found. tokens.now ≡ token found.0.now found.1 ∷ found.2.now) }
+    ensures shorter { IfSome result (λ found. length found.2.now < length tokens.now) }
+{
+    let (token, rest) = tokens.split_first()?;
+    Some((&token.kind, token.place, rest))
+}
+
 /// The place of a word and the tokens behind it.
 pub fn take_word(word: Word, tokens: &[Token]) -> Option<(u32, &[Token])>
-    ensures { MatchOption result (No (is_word (kind_of word) (next tokens.now))) (λ found. tokens.now ≡ token (kind_of word) found.0 ∷ found.1.now) }
+    ensures found { MatchOption result (No (is_word (kind_of word) (next tokens.now))) (λ found. tokens.now ≡ token (kind_of word) found.0 ∷ found.1.now) }
+    ensures shorter { IfSome result (λ found. length found.1.now < length tokens.now) }
 {
     let (token, rest) = tokens.split_first()?;
     match (word, &token.kind) {
@@ -37,7 +47,8 @@ pub fn take_word(word: Word, tokens: &[Token]) -> Option<(u32, &[Token])>
 
 /// A name, its place and the tokens behind it.
 pub fn take_name(tokens: &[Token]) -> Option<(&Name, u32, &[Token])>
-    ensures { MatchOption result (BeginsName (next tokens.now) → ⊥) (λ found. tokens.now ≡ token (kind.Name found.0.now) found.1 ∷ found.2.now) }
+    ensures found { MatchOption result (BeginsName (next tokens.now) → ⊥) (λ found. tokens.now ≡ token (kind.Name found.0.now) found.1 ∷ found.2.now) }
+    ensures shorter { IfSome result (λ found. length found.2.now < length tokens.now) }
 {
     let (token, rest) = tokens.split_first()?;
     match &token.kind {
