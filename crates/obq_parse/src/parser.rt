@@ -16,8 +16,19 @@ ghost use Rattle.obq_parse.specs.Reading.{ReadsChain, ReadsRest};
 use obq_base::{
     Arm, Bind, Block, Expr, Field, FieldExpr, Item, Link, Name, Proc, RecBind, Suffix, Token,
 };
-use obq_parts::words::*;
-use obq_parts::*;
+use obq_parts::words::{
+    ALIAS, ARROW, ASSIGN, CLOSE, CLOSE_BRACE, CLOSE_BRACKET, COMMA, DO, DOT, ELSE, ELSIF, END, EQUALS,
+    EXCEPT, FINALLY, IN, LET, METH, OF, OPEN, OPEN_BRACKET, PROC, REC, SEMICOLON, THEN, TO, UNTIL, VAR,
+};
+use obq_parts::{
+    Chain, ObjectHead, Opening, Refused, Target, Word, alias_node, application, array_node, assignment,
+    begins_suffix, bind_node, chained, clone_node, ended, ends_block, ends_expr, field_assignment,
+    field_node, finally_node, for_node, foreach_node, front, if_node, index_node, invocation, is_end,
+    loop_node, method_node, object_node, place_of, procedure_node, raise_node, read_closed_names,
+    read_literal, read_object_head, read_parameters, rec_bind_node, redirect_node, selection,
+    suffixed, take_name, take_opening, take_operator, take_word, target_of, try_node, value_node,
+    watch_node,
+};
 use sqlite_items::Items;
 use std::alloc::Global;
 
