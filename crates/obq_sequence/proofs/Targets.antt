@@ -110,6 +110,16 @@ one_end in_none (in_one ts g m) e = absurd (none_longer ts g e)
 one_end (in_one ss f l) in_none e = absurd (none_longer ss f (sym e))
 one_end (in_one ss f l) (in_one ts g m) e = one_last l m (sym (snoc_last f ss f) ∙ (ap (λ (l : List Suffix). last_of f l) e ∙ snoc_last f ts g))
 
+-- a call is none of the other ends
+pub not_bare_call : (ss : List Suffix) (vs : List Expr) (p : ℕ) → ss ++ s.Apply vs p ∷ [] ≡ [] → ⊥
+not_bare_call ss vs p e = none_longer ss (s.Apply vs p) (sym e)
+
+pub not_field_call : (ss : List Suffix) (vs : List Expr) (p : ℕ) (ts : List Suffix) (n : List ℕ) (q : ℕ) → ss ++ s.Apply vs p ∷ [] ≡ ts ++ s.Select n q ∷ [] → ⊥
+not_field_call ss vs p ts n q e = absurd (omega (arith, one_end (in_one ss (s.Apply vs p) (an_application vs p)) (in_one ts (s.Select n q) (a_selection n q)) e))
+
+pub not_item_call : (ss : List Suffix) (vs : List Expr) (p : ℕ) (ts : List Suffix) (v : Expr) (q : ℕ) → ss ++ s.Apply vs p ∷ [] ≡ ts ++ s.Index v q ∷ [] → ⊥
+not_item_call ss vs p ts v q e = absurd (omega (arith, one_end (in_one ss (s.Apply vs p) (an_application vs p)) (in_one ts (s.Index v q) (an_index v q)) e))
+
 -- an item with a chain before its `:=`, by the end of that chain
 pub data Assigned (x : List Token) : ℕ → List Token → List Token → Type 0 where
   to_name : {v : Expr} {w s : List Token} → BeginsName (next x) → IsExpr v w s → Assigned x 0 w s
