@@ -8,7 +8,7 @@ use Rattle.obq_base.specs.declared.trees.Item.{Item}
 use Rattle.obq_base.specs.declared.trees.Proc.{Proc}
 use Rattle.obq_base.specs.declared.trees.Expr.{Expr}
 use Rattle.obq_model.specs.Words.{kw_else, kw_end, kw_except, kw_finally, kw_proc, sym_semicolon}
-use Rattle.obq_model.specs.Nodes.{token, next, place, block, procedure}
+use Rattle.obq_model.specs.Nodes.{token, next}
 use Rattle.obq_model.specs.Grammar.{IsBlock, IsMore, IsItem, IsProc, IsPrim, IsElse, IsTry, empty, items, no_more, semicolon, more, proc_of, no_else, else_, finally, excepts}
 use Rattle.obq_grammar.specs.Fails.{Fails}
 use Rattle.obq_grammar.specs.Follow.{No, is_word, Anything, EndsBlock, EndsItem, BeginsExpr}

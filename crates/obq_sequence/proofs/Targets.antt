@@ -7,7 +7,7 @@ use Rattle.obq_base.specs.declared.trees.FieldExpr.{FieldExpr}
 use Rattle.obq_base.specs.declared.trees.Expr.{Expr}
 use Rattle.obq_base.specs.declared.trees.Suffix.{Suffix}
 use Rattle.obq_model.specs.Words.{sym_open, sym_dot, sym_assign, sym_open_bracket, sym_close_bracket}
-use Rattle.obq_model.specs.Nodes.{token, next, place}
+use Rattle.obq_model.specs.Nodes.{token, next}
 use Rattle.obq_model.specs.Grammar.{IsNoOpen, IsItem, IsFieldBody, IsExpr, IsSuffixed, IsSuffixes, IsSuffix, IsCall, IsPrim, let_, var, assign, set_field, set_item, plain, proc, expr, chain, no_suffix, one_suffix, apply, dotted, index, select, invoke, int, text, true_, false_, ok, name, proc_of, paren, array, object, if_, loop_, exit, for, foreach, try, raise, watch, redirect, clone}
 use Rattle.obq_grammar.specs.Fails.{Cut, here, there}
 use Rattle.obq_grammar.specs.Follow.{EndsSuffixed, EndsItem, BeginsName}
@@ -17,7 +17,7 @@ use Rattle.obq_grammar.proofs.Firsts.{first_suffixed}
 use Rattle.obq_grammar.proofs.Unique.{unique_suffixed}
 use Rattle.obq_grammar.proofs.Local.{local_suffixed, local_prim, local_call, local_expr}
 use Rattle.obq_grammar.proofs.Local.{Keeps}
-use Rattle.obq_grammar.proofs.Chains.{unwind, tail_ends, not_assigned, assigned}
+use Rattle.obq_grammar.proofs.Chains.{unwind, tail_ends, not_assigned}
 use Rattle.obq_base.specs.declared.trees.Suffix.TheVariants as s
 
 -- the productions
