@@ -13,9 +13,9 @@ use Rattle.obq_base.specs.declared.trees.Expr.{Expr}
 use Rattle.obq_base.specs.declared.trees.Suffix.{Suffix}
 use Rattle.obq_base.specs.declared.trees.Arm.{Arm}
 use Rattle.obq_base.specs.declared.trees.Field.{Field}
-use Rattle.obq_model.specs.Words.{kw_end, kw_finally, kw_ok, kw_proc, sym_open, sym_close, sym_equals, sym_close_brace}
-use Rattle.obq_model.specs.Nodes.{token, next, block, bind, procedure}
-use Rattle.obq_model.specs.Grammar.{IsBlock, IsMore, IsMoreBinds, IsBind, IsMoreRecBinds, IsFieldBody, IsProc, IsParameters, IsNames, IsMoreNames, IsExpr, IsLevel, IsLinks, IsSuffixes, IsArgs, IsMoreArgs, IsPrim, IsElsifs, IsElse, IsGuards, IsBothFlags, IsMoreFields, empty, no_more, no_bind, bind_of, no_rec_bind, value, proc, no_parameter, names, no_name, expr, operand, level, no_link, chain, no_suffix, invoke, no_argument, args, no_arg, ok, no_elsif, no_else, finally, no_guard, flags_alone, no_further_field}
+use Rattle.obq_model.specs.Words.{kw_end, kw_finally, kw_ok, kw_proc, sym_open, sym_close, sym_close_brace}
+use Rattle.obq_model.specs.Nodes.{token, next, block, procedure}
+use Rattle.obq_model.specs.Grammar.{IsBlock, IsMore, IsMoreBinds, IsMoreRecBinds, IsFieldBody, IsProc, IsParameters, IsNames, IsMoreNames, IsExpr, IsLevel, IsLinks, IsSuffixes, IsArgs, IsMoreArgs, IsPrim, IsElsifs, IsElse, IsGuards, IsBothFlags, IsMoreFields, empty, no_more, no_bind, no_rec_bind, value, proc, no_parameter, names, no_name, expr, operand, level, no_link, chain, no_suffix, invoke, no_argument, args, no_arg, ok, no_elsif, no_else, finally, no_guard, flags_alone, no_further_field}
 use Rattle.obq_grammar.specs.Follow.{No, is_word, EndsLevel, EndsExpr, EndsArgs, EndsBlock, EndsItem, EndsElsifs, EndsGuards}
 use Rattle.obq_grammar.proofs.Sets.{not_yes, is_word_same}
 use Rattle.obq_grammar.proofs.Firsts.{before_more, before_binds, before_args, before_fields, before_links, before_elsifs, before_guards, first_else, else_guards, first_try}
@@ -68,9 +68,6 @@ some_block r = (_, r, empty)
 
 pub some_suffixes : (r : List Token) → (a : List Suffix) × (x : List Token) × IsSuffixes a x r
 some_suffixes r = (_, r, no_suffix)
-
-pub some_bind : (r : List Token) → (a : Bind) × (x : List Token) × IsBind a x r
-some_bind r = let w = some_expr r in (bind [] w.0 0, token (k.Name []) 0 ∷ token sym_equals 0 ∷ w.1, bind_of w.2)
 
 pub some_proc : (r : List Token) → (a : Proc) × (x : List Token) × IsProc a x r
 some_proc r = (procedure [] (block [] 0) 0, token kw_proc 0 ∷ token sym_open 0 ∷ token sym_close 0 ∷ token kw_end 0 ∷ r, proc no_parameter empty)

@@ -3,10 +3,10 @@ use Rattle.std.proofs.Common.{◌≡◌, ℕ, ℤ, suc, Bool, true, false, ◌||
 use Rattle.obq_base.specs.declared.tokens.Token.{Token}
 use Rattle.obq_base.specs.declared.tokens.TokenKind.{TokenKind}
 use Rattle.obq_base.specs.declared.tokens.TokenKind.TheVariants as k
-use Rattle.obq_model.specs.Words.{kw_elsif, kw_end, kw_except, kw_exit, kw_false, kw_ok, kw_true, sym_close, sym_semicolon, sym_close_bracket, sym_close_brace}
+use Rattle.obq_model.specs.Words.{kw_elsif, kw_end, kw_except, kw_exit, kw_false, kw_ok, kw_true, sym_close, sym_semicolon, sym_close_bracket, sym_close_brace, sym_dot, sym_open_bracket, sym_open}
 use Rattle.obq_model.specs.Nodes.{token}
 use Rattle.obq_model.specs.Grammar.{flags, IsParameters, IsCall, IsPrim, IsArray, IsElse, IsObject, IsFlagged, IsBothFlags, no_parameter, no_argument, int, text, true_, false_, ok, name, exit, no_element, no_else, no_field, flag_alone, flags_alone}
-use Rattle.obq_grammar.specs.Follow.{Yes, No, is_word, among, continues, EndsLevel, EndsBlock, EndsItem, EndsElsifs, EndsGuards}
+use Rattle.obq_grammar.specs.Follow.{Yes, No, is_word, among, continues, EndsLevel, EndsBlock, EndsItem, EndsElsifs, EndsGuards, EndsSuffixed}
 use Rattle.obq_grammar.proofs.Theory.{move}
 use Rattle.obq_grammar.proofs.Sets.{no_both}
 use Rattle.obq_grammar.specs.Follow.{operators, closers}
@@ -72,3 +72,6 @@ ends_guards kind h = among_each (λ w. No (is_word kw_except w) → EndsGuards w
 
 pub ends_level : (l : ℕ) (kind : TokenKind) → EndsLevel l kind → No (among (operators l) kind) → EndsLevel (suc l) kind
 ends_level l kind h n = no_both (among (operators l) kind) (continues l kind) n h
+
+pub ends_suffixed : (kind : TokenKind) → No (is_word sym_dot kind) → No (is_word sym_open_bracket kind) → No (is_word sym_open kind) → EndsSuffixed kind
+ends_suffixed kind a b c = no_both (is_word sym_dot kind) _ a (no_both (is_word sym_open_bracket kind) _ b (no_both (is_word sym_open kind) false c tt))

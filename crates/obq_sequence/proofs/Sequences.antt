@@ -10,7 +10,7 @@ use Rattle.obq_grammar.proofs.Theory.{Good, Begins, Both, behind, after, past, s
 use Rattle.obq_grammar.proofs.Sets.{no_yes}
 use Rattle.obq_sequence.specs.Parts.{IsWord, the_word, IsName, the_name, Then, then_}
 
--- What begins with an M that ends before a token of T may stand behind what ends before a token of U; and there is an M before each such token.
+-- What begins with an M that ends before a token of T may stand behind what ends before a token of U; and there is an M before any tokens.
 pub record Behind {B : Type 0} (U : TokenKind → Type 0) (M : B → List Token → List Token → Type 0) (T : TokenKind → Type 0) : Type 0 where
   pub before : (b : B) (x r : List Token) → M b x r → T (next r) → U (next x)
   pub some : (r : List Token) → (b : B) × (x : List Token) × M b x r
