@@ -13,16 +13,14 @@ use Rattle.obq_base.specs.declared.trees.Expr.{Expr}
 use Rattle.obq_base.specs.declared.trees.Suffix.{Suffix}
 use Rattle.obq_base.specs.declared.trees.Arm.{Arm}
 use Rattle.obq_base.specs.declared.trees.Field.{Field}
-use Rattle.obq_model.specs.Words.{kw_end, kw_finally, kw_ok, kw_proc, kw_then, sym_open, sym_close, sym_equals, sym_arrow, sym_close_bracket, sym_close_brace}
-use Rattle.obq_model.specs.Nodes.{token, next, block, bind, rec_bind, procedure, field}
-use Rattle.obq_model.specs.Grammar.{IsBlock, IsMore, IsItem, IsBinds, IsMoreBinds, IsBind, IsRecBinds, IsMoreRecBinds, IsRecBind, IsFieldBody, IsProc, IsParameters, IsNames, IsMoreNames, IsExpr, IsLevel, IsLinks, IsSuffixes, IsCall, IsArgs, IsMoreArgs, IsPrim, IsArray, IsArm, IsElsifs, IsElse, IsGuard, IsGuards, IsBothFlags, IsFields, IsMoreFields, IsField, empty, no_more, plain, let_binds, binds, no_bind, bind_of, rec_binds, no_rec_bind, rec_bind_of, value, proc, no_parameter, names, no_name, expr, operand, level, no_link, chain, no_suffix, invoke, no_argument, args, no_arg, ok, no_element, arm_of, no_elsif, no_else, finally, guard_of, no_guard, flags_alone, fields, no_further_field, field_of}
+use Rattle.obq_model.specs.Words.{kw_end, kw_finally, kw_ok, kw_proc, sym_open, sym_close, sym_close_brace}
+use Rattle.obq_model.specs.Nodes.{token, next, block, procedure}
+use Rattle.obq_model.specs.Grammar.{IsBlock, IsMore, IsMoreBinds, IsMoreRecBinds, IsFieldBody, IsProc, IsParameters, IsNames, IsMoreNames, IsExpr, IsLevel, IsLinks, IsSuffixes, IsArgs, IsMoreArgs, IsPrim, IsElsifs, IsElse, IsGuards, IsBothFlags, IsMoreFields, empty, no_more, no_bind, no_rec_bind, value, proc, no_parameter, names, no_name, expr, operand, level, no_link, chain, no_suffix, invoke, no_argument, args, no_arg, ok, no_elsif, no_else, finally, no_guard, flags_alone, no_further_field}
 use Rattle.obq_grammar.specs.Follow.{No, is_word, EndsLevel, EndsExpr, EndsArgs, EndsBlock, EndsItem, EndsElsifs, EndsGuards}
-use Rattle.obq_grammar.proofs.Theory.{behind}
 use Rattle.obq_grammar.proofs.Sets.{not_yes, is_word_same}
 use Rattle.obq_grammar.proofs.Firsts.{before_more, before_binds, before_args, before_fields, before_links, before_elsifs, before_guards, first_else, else_guards, first_try}
-use Rattle.obq_sequence.specs.Parts.{IsChain, IsLetBody, let_body, IsTryBody, try_body, IsDottedBody, dotted_body}
-use Rattle.obq_sequence.proofs.Sequences.{Behind, word}
-use Rattle.obq_base.specs.declared.trees.Item.TheVariants as i
+use Rattle.obq_sequence.specs.Parts.{IsTryBody, try_body, IsDottedBody, dotted_body}
+use Rattle.obq_sequence.proofs.Sequences.{Behind}
 use Rattle.obq_base.specs.declared.trees.Expr.TheVariants as e
 use Rattle.obq_base.specs.declared.trees.Suffix.TheVariants as s
 
@@ -30,9 +28,6 @@ use Rattle.obq_base.specs.declared.trees.Suffix.TheVariants as s
 
 pub some_prim : (r : List Token) → (a : Expr) × (x : List Token) × IsPrim a x r
 some_prim r = (_, token kw_ok 0 ∷ r, ok)
-
-pub some_chain : (r : List Token) → (c : Expr × List Suffix) × (x : List Token) × IsChain c x r
-some_chain r = ((e.Okay 0, []), token kw_ok 0 ∷ r, chain ok no_suffix)
 
 pub some_level : (l : ℕ) (r : List Token) → (a : Expr) × (x : List Token) × IsLevel l a x r
 some_level zero r = (_, token kw_ok 0 ∷ r, operand (chain ok no_suffix))
@@ -74,23 +69,8 @@ some_block r = (_, r, empty)
 pub some_suffixes : (r : List Token) → (a : List Suffix) × (x : List Token) × IsSuffixes a x r
 some_suffixes r = (_, r, no_suffix)
 
-pub some_item : (r : List Token) → (a : Item) × (x : List Token) × IsItem a x r
-some_item r = let w = some_expr r in (_, w.1, plain w.2)
-
-pub some_bind : (r : List Token) → (a : Bind) × (x : List Token) × IsBind a x r
-some_bind r = let w = some_expr r in (bind [] w.0 0, token (k.Name []) 0 ∷ token sym_equals 0 ∷ w.1, bind_of w.2)
-
-pub some_binds : (r : List Token) → (a : List Bind) × (x : List Token) × IsBinds a x r
-some_binds r = let w = some_bind r in (_, w.1, binds w.2 no_bind)
-
 pub some_proc : (r : List Token) → (a : Proc) × (x : List Token) × IsProc a x r
 some_proc r = (procedure [] (block [] 0) 0, token kw_proc 0 ∷ token sym_open 0 ∷ token sym_close 0 ∷ token kw_end 0 ∷ r, proc no_parameter empty)
-
-pub some_rec_bind : (r : List Token) → (a : RecBind) × (x : List Token) × IsRecBind a x r
-some_rec_bind r = let w = some_proc r in (rec_bind [] w.0 0, token (k.Name []) 0 ∷ token sym_equals 0 ∷ w.1, rec_bind_of w.2)
-
-pub some_rec_binds : (r : List Token) → (a : List RecBind) × (x : List Token) × IsRecBinds a x r
-some_rec_binds r = let w = some_rec_bind r in (_, w.1, rec_binds w.2 no_rec_bind)
 
 pub some_names : (r : List Token) → (a : List (List ℕ)) × (x : List Token) × IsNames a x r
 some_names r = ([] ∷ [], token (k.Name []) 0 ∷ r, names no_name)
@@ -98,35 +78,14 @@ some_names r = ([] ∷ [], token (k.Name []) 0 ∷ r, names no_name)
 pub some_parameters : (r : List Token) → (a : List (List ℕ)) × (x : List Token) × IsParameters a x r
 some_parameters r = ([], token sym_close 0 ∷ r, no_parameter)
 
-pub some_call : (r : List Token) → (a : List Expr) × (x : List Token) × IsCall a x r
-some_call r = ([], token sym_close 0 ∷ r, no_argument)
-
-pub some_array : (r : List Token) → (a : List Expr) × (x : List Token) × IsArray a x r
-some_array r = ([], token sym_close_bracket 0 ∷ r, no_element)
-
-pub some_arm : (r : List Token) → (a : Arm) × (x : List Token) × IsArm a x r
-some_arm r = let w = some_expr (token kw_then 0 ∷ r) in (_, w.1, arm_of w.2 empty)
-
-pub some_guard : (r : List Token) → (a : Arm) × (x : List Token) × IsGuard a x r
-some_guard r = let w = some_expr (token sym_arrow 0 ∷ r) in (_, w.1, guard_of w.2 empty)
-
 pub some_else : (r : List Token) → (a : Option Block) × (x : List Token) × IsElse a x r
 some_else r = (None, token kw_end 0 ∷ r, no_else)
 
 pub some_field_body : (r : List Token) → (a : FieldExpr) × (x : List Token) × IsFieldBody a x r
 some_field_body r = let w = some_expr r in (_, w.1, value w.2)
 
-pub some_field : (r : List Token) → (a : Field) × (x : List Token) × IsField a x r
-some_field r = let w = some_field_body r in (field [] w.0 0, token (k.Name []) 0 ∷ token sym_arrow 0 ∷ w.1, field_of w.2)
-
-pub some_fields : (r : List Token) → (a : List Field) × (x : List Token) × IsFields a x r
-some_fields r = let w = some_field r in (_, w.1, fields w.2 no_further_field)
-
 pub some_both_flags : (r : List Token) → (a : List Field) × (x : List Token) × IsBothFlags a x r
 some_both_flags r = ([], token sym_close_brace 0 ∷ r, flags_alone)
-
-pub some_let : (r : List Token) → (a : Item) × (x : List Token) × IsLetBody a x r
-some_let r = let w = some_binds r in (i.Let w.0 0, w.1, let_body (let_binds w.2))
 
 pub some_try : (r : List Token) → (a : Expr) × (x : List Token) × IsTryBody a x r
 some_try r = (e.Finally (block [] 0) (block [] 0) 0, token kw_finally 0 ∷ token kw_end 0 ∷ r, try_body (finally {p = 0} {b = block [] 0} empty))

@@ -14,7 +14,7 @@ use Rattle.obq_model.specs.Nodes.{token, next, bind, rec_bind, procedure}
 use Rattle.obq_model.specs.Grammar.{IsBlock, IsBinds, IsMoreBinds, IsBind, IsRecBinds, IsMoreRecBinds, IsRecBind, IsMeth, IsProc, IsParameters, IsNames, IsMoreNames, IsExpr, binds, no_bind, one_bind, bind_of, rec_binds, no_rec_bind, one_rec_bind, rec_bind_of, meth, proc, no_parameter, parameters, names, no_name, one_name}
 use Rattle.obq_grammar.specs.Fails.{Fails}
 use Rattle.obq_grammar.specs.Follow.{No, is_word, Anything, EndsExpr, EndsNames, EndsArgs, EndsBlock, BeginsName}
-use Rattle.obq_grammar.proofs.Theory.{Leads, step, move, upto, behind}
+use Rattle.obq_grammar.proofs.Theory.{Leads, step, move, upto}
 use Rattle.obq_grammar.proofs.Firsts.{first_names}
 use Rattle.obq_grammar.proofs.Goods.{good_block, good_bind, good_rec_bind, good_parameters, good_names}
 use Rattle.obq_sequence.specs.Parts.{IsWord, the_word, IsName, the_name, Then, then_}

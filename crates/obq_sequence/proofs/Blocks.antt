@@ -12,7 +12,7 @@ use Rattle.obq_model.specs.Nodes.{token, next, arm}
 use Rattle.obq_model.specs.Grammar.{IsBlock, IsMore, IsItem, IsExpr, IsArm, IsElsifs, IsElse, IsGuard, IsGuards, empty, items, arm_of, no_elsif, one_elsif, else_, guard_of, no_guard, one_guard}
 use Rattle.obq_grammar.specs.Fails.{Fails}
 use Rattle.obq_grammar.specs.Follow.{No, is_word, Anything, EndsExpr, EndsBlock, EndsItem, EndsElsifs, EndsGuards}
-use Rattle.obq_grammar.proofs.Theory.{Leads, step, move, upto, behind}
+use Rattle.obq_grammar.proofs.Theory.{Leads, step, move, upto}
 use Rattle.obq_grammar.proofs.Sets.{item_not_block}
 use Rattle.obq_grammar.proofs.Firsts.{first_item}
 use Rattle.obq_grammar.proofs.Goods.{good_block, good_item, good_expr, good_arm, good_guard}

@@ -11,9 +11,9 @@ use Rattle.obq_base.specs.declared.trees.Field.{Field}
 use Rattle.obq_model.specs.Words.{kw_alias, kw_end, kw_meth, kw_of, sym_close, sym_comma, sym_arrow, sym_close_bracket, sym_close_brace}
 use Rattle.obq_model.specs.Nodes.{token, next, field}
 use Rattle.obq_model.specs.Grammar.{IsFieldBody, IsMeth, IsExpr, IsCall, IsArgs, IsMoreArgs, IsArray, IsBothFlags, IsFields, IsMoreFields, IsField, value, method, alias, meth, no_argument, arguments, args, no_arg, one_arg, no_element, elements, flags_fields, fields, no_further_field, one_field, field_of}
-use Rattle.obq_grammar.specs.Fails.{there, Fails}
+use Rattle.obq_grammar.specs.Fails.{Fails}
 use Rattle.obq_grammar.specs.Follow.{No, is_word, Anything, EndsExpr, EndsArgs, BeginsName, BeginsExpr}
-use Rattle.obq_grammar.proofs.Theory.{fewer, narrow, Leads, step, move, upto, behind}
+use Rattle.obq_grammar.proofs.Theory.{fewer, narrow, Leads, step, move, upto}
 use Rattle.obq_grammar.proofs.Firsts.{first_expr, first_args}
 use Rattle.obq_grammar.proofs.Goods.{good_meth, good_expr, good_args, good_fields, good_field}
 use Rattle.obq_sequence.specs.Parts.{IsWord, the_word, IsName, the_name, Then, then_}

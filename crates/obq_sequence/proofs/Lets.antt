@@ -11,11 +11,11 @@ use Rattle.obq_base.specs.declared.trees.RecBind.{RecBind}
 use Rattle.obq_base.specs.declared.trees.Expr.{Expr}
 use Rattle.obq_base.specs.declared.trees.Arm.{Arm}
 use Rattle.obq_model.specs.Words.{kw_end, kw_except, kw_finally, kw_let, kw_rec, kw_try, kw_var}
-use Rattle.obq_model.specs.Nodes.{token, next, block}
+use Rattle.obq_model.specs.Nodes.{token, next}
 use Rattle.obq_model.specs.Grammar.{IsBlock, IsItem, IsLet, IsBinds, IsRecBinds, IsPrim, IsElse, IsTry, IsGuard, IsGuards, let_, var, set_field, set_item, plain, let_binds, let_rec, proc_of, try, finally, excepts}
-use Rattle.obq_grammar.specs.Fails.{there, Fails}
+use Rattle.obq_grammar.specs.Fails.{Fails}
 use Rattle.obq_grammar.specs.Follow.{No, is_word, Anything, EndsNames, EndsArgs, EndsBlock, EndsItem, EndsGuards, BeginsName}
-use Rattle.obq_grammar.proofs.Theory.{fewer, narrow, move, upto, behind}
+use Rattle.obq_grammar.proofs.Theory.{fewer, narrow, move, upto}
 use Rattle.obq_grammar.proofs.Sets.{item_args, item_names}
 use Rattle.obq_grammar.proofs.Firsts.{first_suffixed, first_expr, first_binds}
 use Rattle.obq_grammar.proofs.Goods.{good_block, good_binds, good_rec_binds, good_guard, good_guards}

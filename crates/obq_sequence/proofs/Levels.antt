@@ -3,13 +3,12 @@
 use Rattle.std.proofs.Common.{◌≡◌, ℕ, zero, suc, List, [], ◌∷◌, ◌++◌, refl, sym, subst, ap, arith, ◌<◌, ◌≤◌, ◌+◌, ◌-◌}
 use Rattle.obq_base.specs.declared.tokens.Token.{Token}
 use Rattle.obq_base.specs.declared.tokens.TokenKind.{TokenKind}
-use Rattle.obq_base.specs.declared.tokens.TokenKind.TheVariants as k
 use Rattle.obq_base.specs.declared.trees.Operator.{Operator}
 use Rattle.obq_base.specs.declared.trees.Expr.{Expr}
 use Rattle.obq_base.specs.declared.trees.Link.{Link}
 use Rattle.obq_base.specs.declared.trees.Suffix.{Suffix}
 use Rattle.obq_model.specs.Nodes.{token, next, link}
-use Rattle.obq_model.specs.Grammar.{Operates, IsExpr, IsLevel, IsLinks, IsSuffixed, expr, operand, level, no_link, one_link, chain}
+use Rattle.obq_model.specs.Grammar.{Operates, IsExpr, IsLevel, IsLinks, IsSuffixed, expr, operand, level, no_link, one_link}
 use Rattle.obq_grammar.specs.Fails.{Cut, here, there, Fails}
 use Rattle.obq_grammar.specs.Follow.{Anything, EndsSuffixed, EndsLevel, EndsExpr}
 use Rattle.obq_grammar.proofs.Theory.{Good, trans, Leads, step, move}

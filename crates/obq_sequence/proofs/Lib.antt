@@ -12,3 +12,4 @@ pub mod Levels
 pub mod Targets
 pub mod Items
 pub mod Programs
+pub mod Leaves

@@ -13,7 +13,7 @@ use Rattle.obq_model.specs.Nodes.{token, next}
 use Rattle.obq_model.specs.Grammar.{flags, IsPrim, IsObject, IsFlagged, IsBothFlags, IsFields, proc_of, object, no_field, unflagged, protected, serialized, flag_alone, flag_fields, other_flag, flags_alone, flags_fields}
 use Rattle.obq_grammar.specs.Fails.{Fails}
 use Rattle.obq_grammar.specs.Follow.{No, is_word, Anything, EndsArgs, BeginsName}
-use Rattle.obq_grammar.proofs.Theory.{move, upto, behind}
+use Rattle.obq_grammar.proofs.Theory.{move, upto}
 use Rattle.obq_grammar.proofs.Firsts.{first_fields}
 use Rattle.obq_grammar.proofs.Goods.{good_fields}
 use Rattle.obq_sequence.specs.Parts.{IsWord, the_word, Then, then_, IsFlagsAndFields, IsFlagAndFields}

@@ -12,7 +12,7 @@ use Rattle.obq_model.specs.Nodes.{token, next}
 use Rattle.obq_model.specs.Grammar.{IsBlock, IsExpr, IsArgs, IsPrim, IsArray, IsArm, IsElsifs, IsElse, proc_of, paren, array, if_, loop_, for, foreach, raise, watch, redirect, clone}
 use Rattle.obq_grammar.specs.Fails.{Fails}
 use Rattle.obq_grammar.specs.Follow.{No, is_word, Anything, EndsExpr, EndsArgs, EndsBlock, EndsElsifs, BeginsName}
-use Rattle.obq_grammar.proofs.Theory.{move, upto, behind}
+use Rattle.obq_grammar.proofs.Theory.{move, upto}
 use Rattle.obq_grammar.proofs.Goods.{good_block, good_expr, good_args, good_arm, good_elsifs}
 use Rattle.obq_sequence.specs.Parts.{IsWord, the_word, IsName, the_name, Then, then_}
 use Rattle.obq_sequence.proofs.Sequences.{Behind, anything, word_behind, then_behind, first, second, opened, good_word, good_name, word, named, also, other_word, other_name}

@@ -2,7 +2,7 @@
 use Rattle.std.proofs.Common.{List, ◌-◌, length}
 use Rattle.obq_base.specs.declared.tokens.Token.{Token}
 use Rattle.obq_base.specs.declared.trees.Block.{Block}
-use Rattle.obq_model.specs.Nodes.{next, block}
+use Rattle.obq_model.specs.Nodes.{next}
 use Rattle.obq_model.specs.Grammar.{IsBlock}
 use Rattle.obq_grammar.specs.Fails.{Fails}
 use Rattle.obq_grammar.specs.Follow.{EndsBlock, EndsProgram}

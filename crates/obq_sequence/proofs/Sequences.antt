@@ -3,16 +3,14 @@ use Rattle.std.proofs.Common.{◌≡◌, ℕ, List, [], ◌∷◌, refl, sym, su
 use Rattle.obq_base.specs.declared.tokens.TokenKind.{TokenKind}
 use Rattle.obq_base.specs.declared.tokens.TokenKind.TheVariants as k
 use Rattle.obq_base.specs.declared.tokens.Token.{Token}
-use Rattle.obq_base.specs.declared.trees.Operator.{Operator}
 use Rattle.obq_model.specs.Nodes.{token, next}
-use Rattle.obq_model.specs.Grammar.{Operates}
 use Rattle.obq_grammar.specs.Fails.{Cut, here, there, Fails}
 use Rattle.obq_grammar.specs.Follow.{No, Yes, is_word, Anything, BeginsName}
-use Rattle.obq_grammar.proofs.Theory.{Good, Begins, Both, behind, same_front, after, past, stop, fewer, narrow}
+use Rattle.obq_grammar.proofs.Theory.{Good, Begins, Both, behind, after, past, stop}
 use Rattle.obq_grammar.proofs.Sets.{no_yes}
-use Rattle.obq_sequence.specs.Parts.{IsWord, the_word, IsName, the_name, IsOperator, the_operator, Then, then_}
+use Rattle.obq_sequence.specs.Parts.{IsWord, the_word, IsName, the_name, Then, then_}
 
--- What begins with an M that ends before a token of T may stand behind what ends before a token of U; and there is an M before each such token.
+-- What begins with an M that ends before a token of T may stand behind what ends before a token of U; and there is an M before any tokens.
 pub record Behind {B : Type 0} (U : TokenKind → Type 0) (M : B → List Token → List Token → Type 0) (T : TokenKind → Type 0) : Type 0 where
   pub before : (b : B) (x r : List Token) → M b x r → T (next r) → U (next x)
   pub some : (r : List Token) → (b : B) × (x : List Token) × M b x r

@@ -7,16 +7,16 @@ use Rattle.obq_base.specs.declared.trees.Block.{Block}
 use Rattle.obq_base.specs.declared.trees.Item.{Item}
 use Rattle.obq_base.specs.declared.trees.Proc.{Proc}
 use Rattle.obq_base.specs.declared.trees.Expr.{Expr}
-use Rattle.obq_model.specs.Words.{kw_else, kw_end, kw_except, kw_finally, kw_proc, sym_semicolon}
-use Rattle.obq_model.specs.Nodes.{token, next, place, block, procedure}
-use Rattle.obq_model.specs.Grammar.{IsBlock, IsMore, IsItem, IsProc, IsPrim, IsElse, IsTry, empty, items, no_more, semicolon, more, proc_of, no_else, else_, finally, excepts}
+use Rattle.obq_model.specs.Words.{kw_else, kw_end, kw_except, kw_finally, kw_proc, sym_semicolon, kw_meth, sym_open, sym_close}
+use Rattle.obq_model.specs.Nodes.{token, next, procedure, block}
+use Rattle.obq_model.specs.Grammar.{IsBlock, IsMore, IsItem, IsProc, IsPrim, IsElse, IsTry, empty, items, no_more, semicolon, more, proc_of, no_else, else_, finally, excepts, IsMeth, proc, meth, names, no_name}
 use Rattle.obq_grammar.specs.Fails.{Fails}
 use Rattle.obq_grammar.specs.Follow.{No, is_word, Anything, EndsBlock, EndsItem, BeginsExpr}
 use Rattle.obq_grammar.proofs.Theory.{Leads, step, move}
 use Rattle.obq_grammar.proofs.Firsts.{first_prim}
 use Rattle.obq_sequence.proofs.Sequences.{production, opened, nothing, word}
 use Rattle.obq_sequence.proofs.Blocks.{items_at_1, items_at_2}
-use Rattle.obq_sequence.proofs.Beginnings.{some_prim, some_more, some_else}
+use Rattle.obq_sequence.proofs.Beginnings.{some_prim, some_more, some_else, some_proc}
 
 -- the productions
 
@@ -36,6 +36,18 @@ try_none n (excepts p q r) = n.1
 
 pub try_stop : {o : ℕ} {d : Block} {x : List Token} → No (is_word kw_finally (next x)) → No (is_word kw_except (next x)) → Fails (IsTry o d) Anything x x
 try_stop {o = o} {d = d} c f = nothing (λ kind. No (is_word kw_finally kind) × No (is_word kw_except kind)) (λ a y s n l h. try_none n l) (λ r. (_, token kw_finally 0 ∷ token kw_end 0 ∷ r, finally {p = o} {b = d} empty)) (c, f)
+
+proc_none : {a : Proc} {y s : List Token} → No (is_word kw_proc (next y)) → IsProc a y s → ⊥
+proc_none n (proc p q) = n
+
+pub proc_at_1 : {x : List Token} → No (is_word kw_proc (next x)) → Fails IsProc Anything x x
+proc_at_1 = nothing (λ kind. No (is_word kw_proc kind)) (λ a y s n l h. proc_none n l) some_proc
+
+meth_none : {a : Proc} {y s : List Token} → No (is_word kw_meth (next y)) → IsMeth a y s → ⊥
+meth_none n (meth p q) = n
+
+pub meth_at_1 : {x : List Token} → No (is_word kw_meth (next x)) → Fails IsMeth Anything x x
+meth_at_1 = nothing (λ kind. No (is_word kw_meth kind)) (λ a y s n l h. meth_none n l) (λ r. (procedure ([] ∷ []) (block [] 0) 0, token kw_meth 0 ∷ token sym_open 0 ∷ token (k.Name []) 0 ∷ token sym_close 0 ∷ token kw_end 0 ∷ r, meth (names no_name) empty))
 
 -- more of a block
 pub more_stop : {x : List Token} → (EndsBlock (next x) → ⊥) → No (is_word sym_semicolon (next x)) → Fails IsMore EndsBlock x x

@@ -7,7 +7,7 @@ use Rattle.obq_base.specs.declared.trees.FieldExpr.{FieldExpr}
 use Rattle.obq_base.specs.declared.trees.Expr.{Expr}
 use Rattle.obq_base.specs.declared.trees.Suffix.{Suffix}
 use Rattle.obq_model.specs.Words.{sym_open, sym_dot, sym_assign, sym_open_bracket, sym_close_bracket}
-use Rattle.obq_model.specs.Nodes.{token, next, place}
+use Rattle.obq_model.specs.Nodes.{token, next}
 use Rattle.obq_model.specs.Grammar.{IsNoOpen, IsItem, IsFieldBody, IsExpr, IsSuffixed, IsSuffixes, IsSuffix, IsCall, IsPrim, let_, var, assign, set_field, set_item, plain, proc, expr, chain, no_suffix, one_suffix, apply, dotted, index, select, invoke, int, text, true_, false_, ok, name, proc_of, paren, array, object, if_, loop_, exit, for, foreach, try, raise, watch, redirect, clone}
 use Rattle.obq_grammar.specs.Fails.{Cut, here, there}
 use Rattle.obq_grammar.specs.Follow.{EndsSuffixed, EndsItem, BeginsName}
@@ -17,7 +17,7 @@ use Rattle.obq_grammar.proofs.Firsts.{first_suffixed}
 use Rattle.obq_grammar.proofs.Unique.{unique_suffixed}
 use Rattle.obq_grammar.proofs.Local.{local_suffixed, local_prim, local_call, local_expr}
 use Rattle.obq_grammar.proofs.Local.{Keeps}
-use Rattle.obq_grammar.proofs.Chains.{unwind, tail_ends, not_assigned, assigned}
+use Rattle.obq_grammar.proofs.Chains.{unwind, tail_ends, not_assigned}
 use Rattle.obq_base.specs.declared.trees.Suffix.TheVariants as s
 
 -- the productions
@@ -109,6 +109,16 @@ one_end in_none in_none e = refl
 one_end in_none (in_one ts g m) e = absurd (none_longer ts g e)
 one_end (in_one ss f l) in_none e = absurd (none_longer ss f (sym e))
 one_end (in_one ss f l) (in_one ts g m) e = one_last l m (sym (snoc_last f ss f) ∙ (ap (λ (l : List Suffix). last_of f l) e ∙ snoc_last f ts g))
+
+-- a call is none of the other ends
+pub not_bare_call : (ss : List Suffix) (vs : List Expr) (p : ℕ) → ss ++ s.Apply vs p ∷ [] ≡ [] → ⊥
+not_bare_call ss vs p e = none_longer ss (s.Apply vs p) (sym e)
+
+pub not_field_call : (ss : List Suffix) (vs : List Expr) (p : ℕ) (ts : List Suffix) (n : List ℕ) (q : ℕ) → ss ++ s.Apply vs p ∷ [] ≡ ts ++ s.Select n q ∷ [] → ⊥
+not_field_call ss vs p ts n q e = absurd (omega (arith, one_end (in_one ss (s.Apply vs p) (an_application vs p)) (in_one ts (s.Select n q) (a_selection n q)) e))
+
+pub not_item_call : (ss : List Suffix) (vs : List Expr) (p : ℕ) (ts : List Suffix) (v : Expr) (q : ℕ) → ss ++ s.Apply vs p ∷ [] ≡ ts ++ s.Index v q ∷ [] → ⊥
+not_item_call ss vs p ts v q e = absurd (omega (arith, one_end (in_one ss (s.Apply vs p) (an_application vs p)) (in_one ts (s.Index v q) (an_index v q)) e))
 
 -- an item with a chain before its `:=`, by the end of that chain
 pub data Assigned (x : List Token) : ℕ → List Token → List Token → Type 0 where

@@ -1,10 +1,10 @@
 -- The parts of a production as languages: a word or a name alone, and one part behind another.
-use Rattle.std.specs.Prelude.{ℕ, suc, ◌<◌, Bool, List, [], ◌∷◌}
+use Rattle.std.specs.Prelude.{ℕ, suc, ◌<◌, Bool, List, ◌∷◌}
 use Rattle.obq_base.specs.declared.tokens.TokenKind.{TokenKind}
 use Rattle.obq_base.specs.declared.tokens.TokenKind.TheVariants as k
 use Rattle.obq_base.specs.declared.tokens.Token.{Token}
 use Rattle.obq_base.specs.declared.trees.Operator.{Operator}
-use Rattle.obq_model.specs.Nodes.{token, next}
+use Rattle.obq_model.specs.Nodes.{token}
 use Rattle.obq_base.specs.declared.trees.Flags.{Flags}
 use Rattle.obq_base.specs.declared.trees.Block.{Block}
 use Rattle.obq_base.specs.declared.trees.Item.{Item}
