@@ -7,7 +7,7 @@ ghost use Rattle.obq_model.specs.Grammar as g;
 ghost use Rattle.obq_model.specs.Nodes.{next, token};
 ghost use Rattle.obq_model.specs.Syntax.{IsEnded};
 ghost use Rattle.obq_model.specs.Words as w;
-ghost use Rattle.obq_grammar.specs.Follow.{Anything, EndsArgs, EndsBlock, EndsElsifs, EndsExpr, EndsGuards, EndsItem, EndsLevel, EndsNames, EndsProgram, EndsSuffixed};
+ghost use Rattle.obq_grammar.specs.Follow.{Anything, EndsArgs, EndsBlock, EndsElsifs, EndsExpr, EndsGuards, EndsItem, EndsLevel, EndsNames, EndsProgram, EndsSuffixed, No, is_word};
 ghost use Rattle.obq_parts.specs.Closed.{ReadsBody, ReadsUntil};
 ghost use Rattle.obq_parts.specs.Reads.{Reads, kind_of};
 ghost use Rattle.obq_parse.specs.Answers.{Answers};
@@ -239,6 +239,8 @@ fn read_rec_bind<'a>(alloc: Global, tokens: &'a [Token]) -> Read<'a, RecBind>
 /// An item that is an assignment or an expression.
 #[cycle(parse)]
 fn read_other<'a>(alloc: Global, tokens: &'a [Token]) -> Read<'a, Item>
+    requires no_let { No (is_word w.kw_let (next tokens.now)) }
+    requires no_var { No (is_word w.kw_var (next tokens.now)) }
     ensures read { Reads g.IsItem EndsItem tokens.now result }
     ensures shorter { IfOk result (λ p. length p.1.now < length tokens.now) }
 {
@@ -250,15 +252,15 @@ fn read_other<'a>(alloc: Global, tokens: &'a [Token]) -> Read<'a, Item>
         return Ok((Item::Plain(value), rest));
     };
     match have!(target_of(alloc, tokens, chain)) {
-        Some(Target::Field(target)) => {
+        Target::Field(target) => {
             let (body, rest) = read!(ended(read_field_body(alloc, behind)); target);
             Ok((have!(field_assignment(alloc, target, body, place)), rest))
         }
-        Some(Target::Value(target)) => {
+        Target::Value(target) => {
             let (value, rest) = read!(ended(read_expr(alloc, behind)); target);
             Ok((have!(assignment(alloc, target, value, place)), rest))
         }
-        None => Err(Refused::Syntax(rest)),
+        Target::Fixed => Err(Refused::Syntax(rest)),
     }
 }
 

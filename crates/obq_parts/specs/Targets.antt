@@ -1,5 +1,5 @@
 -- What a chain before `:=` assigns to.
-use Rattle.std.specs.Prelude.{◌≡◌, ℕ, List, [], ◌∷◌, ◌++◌, Option, Some, None}
+use Rattle.std.specs.Prelude.{◌≡◌, ℕ, List, [], ◌∷◌, ◌++◌}
 use Rattle.obq_base.specs.declared.tokens.TokenKind.TheVariants as k
 use Rattle.obq_base.specs.declared.tokens.Token.{Token}
 use Rattle.obq_base.specs.declared.trees.Expr.{Expr}
@@ -23,11 +23,11 @@ pub record IsNoTarget (x : List Token) (suffixes : List Suffix) : Type 0 where
   pub no_field : (ss : List Suffix) (n : List ℕ) (p : ℕ) → suffixes ≡ ss ++ s.Select n p ∷ [] → ⊥
   pub no_item : (ss : List Suffix) (j : Expr) (p : ℕ) → suffixes ≡ ss ++ s.Index j p ∷ [] → ⊥
 
-abbrev pub Targets : List Token → Chain → Option Target → Type 0
-Targets x chain None = IsNoTarget x chain.suffixes
-Targets x chain (Some (t.Field f)) = (p : ℕ) × (chain.head ≡ f.object.head) × (chain.suffixes ≡ f.object.suffixes ++ s.Select f.name p ∷ [])
-Targets x chain (Some (t.Value (Named n))) = (p : ℕ) × (y : List Token) × (x ≡ token (k.Name n) p ∷ y) × (chain.suffixes ≡ [])
-Targets x chain (Some (t.Value (Indexed c j))) = (p : ℕ) × (chain.head ≡ c.head) × (chain.suffixes ≡ c.suffixes ++ s.Index j p ∷ [])
+abbrev pub Targets : List Token → Chain → Target → Type 0
+Targets x chain t.Fixed = IsNoTarget x chain.suffixes
+Targets x chain (t.Field f) = (p : ℕ) × (chain.head ≡ f.object.head) × (chain.suffixes ≡ f.object.suffixes ++ s.Select f.name p ∷ [])
+Targets x chain (t.Value (Named n)) = (p : ℕ) × (y : List Token) × (x ≡ token (k.Name n) p ∷ y) × (chain.suffixes ≡ [])
+Targets x chain (t.Value (Indexed c j)) = (p : ℕ) × (chain.head ≡ c.head) × (chain.suffixes ≡ c.suffixes ++ s.Index j p ∷ [])
 
 abbrev pub assignment_of : ValueTarget → Expr → ℕ → Item
 assignment_of (Named n) v p = i.Assign n v p

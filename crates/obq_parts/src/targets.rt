@@ -35,32 +35,34 @@ pub enum ValueTarget {
 pub enum Target {
     Field(FieldTarget),
     Value(ValueTarget),
+    /// The item can't be assigned to.
+    Fixed,
 }
 
 /// What the chain is as a target, where the item begins with these tokens.
-pub fn target_of(alloc: Global, tokens: &[Token], chain: Chain) -> Result<Option<Target>, NoMemory>
+pub fn target_of(alloc: Global, tokens: &[Token], chain: Chain) -> Result<Target, NoMemory>
     ensures { IfOk result (λ target. Targets tokens.now chain target) }
 {
     let Chain { head, mut suffixes } = chain;
     match suffixes.pop() {
-        Some(Suffix::Select { name, .. }) => Ok(Some(Target::Field(FieldTarget {
+        Some(Suffix::Select { name, .. }) => Ok(Target::Field(FieldTarget {
             object: Chain { head, suffixes },
             name,
-        }))),
-        Some(Suffix::Index { index, .. }) => Ok(Some(Target::Value(ValueTarget::Indexed(
+        })),
+        Some(Suffix::Index { index, .. }) => Ok(Target::Value(ValueTarget::Indexed(
             Chain { head, suffixes },
             index,
-        )))),
+        ))),
         Some(other) => {
             drop(head);
             drop(other);
-            Ok(None)
+            Ok(Target::Fixed)
         }
         None => {
             drop(head);
             match take_name(tokens) {
-                Some((name, _, _)) => Ok(Some(Target::Value(ValueTarget::Named(name.copy(alloc)?)))),
-                None => Ok(None),
+                Some((name, _, _)) => Ok(Target::Value(ValueTarget::Named(name.copy(alloc)?))),
+                None => Ok(Target::Fixed),
             }
         }
     }
