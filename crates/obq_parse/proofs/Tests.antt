@@ -1,7 +1,6 @@
 -- What the tests of the next token say, and answers that are handed on.
 use Rattle.std.proofs.Common.{◌≡◌, ◌↔◌, ℕ, ◌-◌, zero, suc, Bool, true, false, IsTrue, ◌||◌, List, [], ◌∷◌, Option, Result, Ok, Err, refl, sym, subst, ap, ◌∙◌, arith}
 use Rattle.std.specs.Borrow.{Bor}
-use Rattle.obq_base.specs.declared.tokens.TokenKind.{TokenKind}
 use Rattle.obq_base.specs.declared.tokens.TokenKind.TheVariants as k
 use Rattle.obq_base.specs.declared.tokens.Token.{Token}
 use Rattle.obq_base.specs.declared.trees.Arm.{Arm}
@@ -15,7 +14,7 @@ use Rattle.obq_model.specs.Nodes.{next, token}
 use Rattle.obq_model.specs.Words.{kw_else, kw_elsif, kw_end, kw_except, kw_finally, kw_proc, kw_try, sym_close, sym_dot, sym_open, sym_open_bracket}
 use Rattle.obq_model.specs.Grammar.{IsBlock, IsDotted, IsNoOpen, IsObject, IsPrim, IsProc, IsSuffix, IsTry}
 use Rattle.obq_grammar.specs.Fails.{Fails}
-use Rattle.obq_grammar.specs.Follow.{among, is_word, suffix_words, Anything, EndsBlock, EndsElsifs, EndsGuards, EndsSuffixed, No, Yes}
+use Rattle.obq_grammar.specs.Follow.{among, is_word, Anything, EndsBlock, EndsElsifs, EndsGuards, EndsSuffixed, No, Yes}
 use Rattle.obq_grammar.proofs.Sets.{no_both, no_open}
 use Rattle.obq_sequence.proofs.Primaries.{paren_at_2, paren_at_3, paren_of}
 use Rattle.obq_sequence.proofs.Lets.{try_at_3, try_of}

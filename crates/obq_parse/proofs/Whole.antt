@@ -1,5 +1,5 @@
 -- The place of a fault is within the tokens.
-use Rattle.std.proofs.Common.{◌≡◌, ◌≤◌, List, [], ◌∷◌, length, refl, arith}
+use Rattle.std.proofs.Common.{◌≤◌, List, length, refl, arith}
 use Rattle.obq_base.specs.declared.tokens.TokenKind.{TokenKind}
 use Rattle.obq_base.specs.declared.tokens.Token.{Token}
 use Rattle.obq_grammar.specs.Fails.{Cut, here, there, Fails}

@@ -5,29 +5,28 @@ ghost use Rattle.std.specs.Prelude.{◌≡◌, ◌∷◌, ◌<◌, ◌≤◌, If
 ghost use Rattle.obq_base.specs.declared.tokens.TokenKind.TheVariants as kind;
 ghost use Rattle.obq_model.specs.Grammar as g;
 ghost use Rattle.obq_model.specs.Nodes.{next, token};
-ghost use Rattle.obq_model.specs.Syntax.{IsEnded};
 ghost use Rattle.obq_model.specs.Words as w;
-ghost use Rattle.obq_grammar.specs.Follow.{Anything, EndsArgs, EndsBlock, EndsElsifs, EndsExpr, EndsGuards, EndsItem, EndsLevel, EndsNames, EndsProgram, EndsSuffixed, No, is_word};
+ghost use Rattle.obq_grammar.specs.Follow.{Anything, EndsArgs, EndsBlock, EndsElsifs, EndsExpr, EndsGuards, EndsItem, EndsLevel, EndsNames, EndsSuffixed, No, is_word};
 ghost use Rattle.obq_parts.specs.Closed.{ReadsBody, ReadsUntil};
 ghost use Rattle.obq_parts.specs.Reads.{Reads, kind_of};
-ghost use Rattle.obq_parse.specs.Answers.{Answers};
 ghost use Rattle.obq_parse.specs.Reading.{ReadsChain, ReadsRest};
 
 use obq_base::{
     Arm, Bind, Block, Expr, Field, FieldExpr, Item, Link, Name, Proc, RecBind, Suffix, Token,
 };
 use obq_parts::words::{
-    ALIAS, ARROW, ASSIGN, CLOSE, CLOSE_BRACE, CLOSE_BRACKET, COMMA, DO, DOT, ELSE, ELSIF, END, EQUALS,
-    EXCEPT, FINALLY, IN, LET, METH, OF, OPEN, OPEN_BRACKET, PROC, REC, SEMICOLON, THEN, TO, UNTIL, VAR,
+    ALIAS, ARROW, ASSIGN, CLOSE, CLOSE_BRACE, CLOSE_BRACKET, COMMA, DO, DOT, ELSE, ELSIF, END,
+    EQUALS, EXCEPT, FINALLY, IN, LET, METH, OF, OPEN, OPEN_BRACKET, PROC, REC, SEMICOLON, THEN, TO,
+    UNTIL, VAR,
 };
 use obq_parts::{
-    Chain, ObjectHead, Opening, Refused, Target, Word, alias_node, application, array_node, assignment,
-    begins_suffix, bind_node, chained, clone_node, ended, ends_block, ends_expr, field_assignment,
-    field_node, finally_node, for_node, foreach_node, front, if_node, index_node, invocation, is_end,
-    loop_node, method_node, object_node, place_of, procedure_node, raise_node, read_closed_names,
-    read_literal, read_object_head, read_parameters, rec_bind_node, redirect_node, selection,
-    suffixed, take_name, take_opening, take_operator, take_word, target_of, try_node, value_node,
-    watch_node,
+    Chain, ObjectHead, Opening, Refused, Target, Word, alias_node, application, array_node,
+    assignment, begins_suffix, bind_node, chained, clone_node, ended, ends_block, ends_expr,
+    field_assignment, field_node, finally_node, for_node, foreach_node, front, if_node, index_node,
+    invocation, loop_node, method_node, object_node, place_of, procedure_node, raise_node,
+    read_closed_names, read_literal, read_object_head, read_parameters, rec_bind_node,
+    redirect_node, selection, suffixed, take_name, take_opening, take_operator, take_word,
+    target_of, try_node, value_node, watch_node,
 };
 use sqlite_items::Items;
 use std::alloc::Global;
@@ -83,16 +82,6 @@ macro_rules! name {
     };
 }
 
-/// Why tokens have no tree.
-#[derive(Clone, Copy, Debug, PartialEq, Eq)]
-pub enum ParseRefused {
-    /// The index of the first token that no program has there.
-    Syntax {
-        token: u32,
-    },
-    NoMemory,
-}
-
 /// An expression, and the tokens behind the word that closes it.
 #[cycle(parse)]
 fn read_until<'a>(alloc: Global, mark: Word, tokens: &'a [Token]) -> Read<'a, Expr>
@@ -116,7 +105,7 @@ fn read_body<'a>(alloc: Global, tokens: &'a [Token]) -> Read<'a, Block>
 }
 
 #[cycle(parse)]
-fn read_block<'a>(alloc: Global, tokens: &'a [Token]) -> Read<'a, Block>
+pub fn read_block<'a>(alloc: Global, tokens: &'a [Token]) -> Read<'a, Block>
     ensures read { Reads g.IsBlock EndsBlock tokens.now result }
     ensures shorter { IfOk result (λ p. length p.1.now ≤ length tokens.now) }
 {
@@ -445,7 +434,12 @@ fn read_suffix<'a>(alloc: Global, tokens: &'a [Token]) -> Read<'a, Suffix>
 
 /// Behind the `.` at `place` and the name: a selection or an invocation.
 #[cycle(parse)]
-fn read_dotted<'a>(alloc: Global, name: &'a Name, place: u32, tokens: &'a [Token]) -> Read<'a, Suffix>
+fn read_dotted<'a>(
+    alloc: Global,
+    name: &'a Name,
+    place: u32,
+    tokens: &'a [Token],
+) -> Read<'a, Suffix>
     ensures read { Reads (g.IsDotted name.now place) Anything tokens.now result }
     ensures shorter { IfOk result (λ p. length p.1.now ≤ length tokens.now) }
 {
@@ -788,31 +782,4 @@ fn read_clone<'a>(alloc: Global, place: u32, tokens: &'a [Token]) -> Read<'a, Ex
     let (objects, rest) = read!(read_args(alloc, rest));
     let rest = skip!(CLOSE, rest);
     Ok((clone_node(objects, place), rest))
-}
-
-/// The whole, up to the end of the source.
-fn read_whole<'a>(alloc: Global, tokens: &'a [Token]) -> Read<'a, Block>
-    ensures read { Reads g.IsBlock EndsProgram tokens.now result }
-    ensures shorter { IfOk result (λ p. length p.1.now ≤ length tokens.now) }
-{
-    let (tree, rest) = read!(read_block(alloc, tokens));
-    if !is_end(rest) {
-        return Err(Refused::Syntax(rest));
-    }
-    Ok((tree, rest))
-}
-
-/// The tree that the tokens derive, or the first token that no program has there.
-pub fn parse(alloc: Global, tokens: &[Token]) -> Result<Block, ParseRefused>
-    requires ended { IsEnded tokens.now }
-    requires few { length tokens.now ≤ 1048577 }
-    ensures { Answers tokens.now result }
-{
-    match read_whole(alloc, tokens) {
-        Ok((tree, _)) => Ok(tree),
-        Err(Refused::Syntax(rest)) => Err(ParseRefused::Syntax {
-            token: (tokens.len() - rest.len()) as u32,
-        }),
-        Err(Refused::NoMemory) => Err(ParseRefused::NoMemory),
-    }
 }

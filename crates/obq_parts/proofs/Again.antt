@@ -11,7 +11,7 @@ use Rattle.obq_model.specs.Words.{sym_comma}
 use Rattle.obq_model.specs.Nodes.{token, next}
 use Rattle.obq_model.specs.Grammar.{IsNames, IsMoreNames, IsBinds, IsMoreBinds, IsBind, IsRecBinds, IsMoreRecBinds, IsRecBind, IsArgs, IsMoreArgs, IsExpr, IsFields, IsMoreFields, IsField, names, no_name, one_name, binds, no_bind, one_bind, rec_binds, no_rec_bind, one_rec_bind, args, no_arg, one_arg, fields, no_further_field, one_field}
 use Rattle.obq_grammar.specs.Fails.{Fails}
-use Rattle.obq_grammar.specs.Follow.{No, is_word, continues, Anything, EndsExpr, EndsNames, EndsArgs}
+use Rattle.obq_grammar.specs.Follow.{No, is_word, continues, EndsExpr, EndsNames, EndsArgs}
 use Rattle.obq_grammar.proofs.Theory.{Leads, step, after, at}
 use Rattle.obq_grammar.proofs.Sets.{no_both}
 use Rattle.obq_sequence.proofs.Bindings.{names_at_2, names_of, one_name_of, binds_at_2, one_bind_of, rec_binds_at_2, one_rec_bind_of}

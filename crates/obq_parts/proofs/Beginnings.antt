@@ -11,7 +11,6 @@ use Rattle.obq_grammar.specs.Follow.{among, BeginsExpr, No, Yes}
 use Rattle.obq_grammar.proofs.Sets.{among_each}
 use Rattle.obq_parts.specs.Openings.{openings, literals}
 
-
 no_word : (kind : TokenKind) → Yes (among (kw_true ∷ kw_false ∷ kw_ok ∷ kw_proc ∷ sym_open ∷ sym_open_bracket ∷ sym_open_brace ∷ kw_if ∷ kw_loop ∷ kw_exit ∷ kw_for ∷ kw_foreach ∷ kw_try ∷ kw_raise ∷ kw_watch ∷ kw_redirect ∷ kw_clone ∷ []) kind) → No (among openings kind) → No (among literals kind) → ⊥
 no_word kind y = among_each (λ k. No (among openings k) → No (among literals k) → ⊥) (kw_true ∷ kw_false ∷ kw_ok ∷ kw_proc ∷ sym_open ∷ sym_open_bracket ∷ sym_open_brace ∷ kw_if ∷ kw_loop ∷ kw_exit ∷ kw_for ∷ kw_foreach ∷ kw_try ∷ kw_raise ∷ kw_watch ∷ kw_redirect ∷ kw_clone ∷ []) kind (λ a b. b, (λ a b. b, (λ a b. b, (λ a b. a, (λ a b. a, (λ a b. a, (λ a b. a, (λ a b. a, (λ a b. a, (λ a b. b, (λ a b. a, (λ a b. a, (λ a b. a, (λ a b. a, (λ a b. a, (λ a b. a, (λ a b. a, tt))))))))))))))))) y
 

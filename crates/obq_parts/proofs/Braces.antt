@@ -1,16 +1,14 @@
 -- Flags of an object and the fields behind them.
-use Rattle.std.proofs.Common.{◌≡◌, ℕ, Bool, true, false, cond, List, [], ◌∷◌, refl, sym, subst, ap, ◌∙◌}
-use Rattle.obq_base.specs.declared.tokens.TokenKind.{TokenKind}
+use Rattle.std.proofs.Common.{◌≡◌, ℕ, Bool, true, false, cond, List, [], ◌∷◌, refl, sym, subst}
 use Rattle.obq_base.specs.declared.tokens.TokenKind.TheVariants as k
 use Rattle.obq_base.specs.declared.tokens.Token.{Token}
 use Rattle.obq_base.specs.declared.trees.Field.{Field}
 use Rattle.obq_base.specs.declared.trees.Flags.{Flags}
 use Rattle.obq_model.specs.Nodes.{next, token}
 use Rattle.obq_model.specs.Words.{kw_protected, kw_serialized, row_protected, row_serialized, sym_close_brace, sym_comma}
-use Rattle.obq_model.specs.Grammar.{flags, IsBothFlags, IsFields, IsFlagged, IsObject, no_field, flag_alone, flags_alone}
+use Rattle.obq_model.specs.Grammar.{flags, IsBothFlags, IsFlagged, IsObject}
 use Rattle.obq_grammar.specs.Fails.{Fails}
-use Rattle.obq_grammar.specs.Follow.{Anything, EndsArgs, is_word, No}
-use Rattle.obq_grammar.proofs.Theory.{move}
+use Rattle.obq_grammar.specs.Follow.{Anything, is_word, No}
 use Rattle.obq_sequence.specs.Parts.{IsFlagsAndFields, IsFlagAndFields}
 use Rattle.obq_sequence.proofs.Fields.{flags_fields_at_2, flags_fields_at_3, flags_fields_of}
 use Rattle.obq_sequence.proofs.Objects.{unflagged_at_1, unflagged_at_2, unflagged_of, protected_at_2, protected_of, serialized_at_2, serialized_of, flag_fields_at_2, flag_fields_at_3, flag_fields_of, other_flag_at_3, other_flag_of}

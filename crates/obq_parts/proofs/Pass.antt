@@ -1,15 +1,14 @@
 -- What a part of the parser hands on of another part's answer.
-use Rattle.std.proofs.Common.{◌≡◌, ℕ, List, [], ◌∷◌, Result, Ok, Err, refl, sym, subst, ap, ◌∙◌}
+use Rattle.std.proofs.Common.{◌≡◌, List, Result, sym, subst}
 use Rattle.std.specs.Borrow.{Bor}
 use Rattle.obq_base.specs.declared.tokens.TokenKind.{TokenKind}
 use Rattle.obq_base.specs.declared.tokens.Token.{Token}
-use Rattle.obq_model.specs.Nodes.{next, token}
+use Rattle.obq_model.specs.Nodes.{next}
 use Rattle.obq_grammar.specs.Fails.{Fails}
-use Rattle.obq_grammar.specs.Follow.{is_word, EndsItem, No}
-use Rattle.obq_grammar.proofs.Theory.{Good, fewer, narrow}
+use Rattle.obq_grammar.specs.Follow.{is_word, No}
 use Rattle.obq_parts.specs.declared.steps.Refused.{Refused}
 use Rattle.obq_parts.specs.declared.steps.Refused.TheVariants.{Syntax, NoMemory}
-use Rattle.obq_parts.specs.Reads.{Faulty, Reads, Ended}
+use Rattle.obq_parts.specs.Reads.{Faulty, Reads}
 use Rattle.obq_parts.specs.Closed.{CloseFails, inside, unclosed}
 
 -- a refusal of a part, as one of the whole

@@ -1,6 +1,5 @@
 -- What the flags of an object lead to.
-use Rattle.std.specs.Prelude.{◌≡◌, ◌<◌, ◌≤◌, ℕ, Bool, true, false, cond, List, [], ◌∷◌, length}
-use Rattle.obq_base.specs.declared.tokens.TokenKind.TheVariants as k
+use Rattle.std.specs.Prelude.{◌≡◌, ◌<◌, ◌≤◌, ℕ, Bool, true, cond, List, [], ◌∷◌, length}
 use Rattle.obq_base.specs.declared.tokens.Token.{Token}
 use Rattle.obq_base.specs.declared.trees.Field.{Field}
 use Rattle.obq_base.specs.declared.trees.Flags.{Flags}

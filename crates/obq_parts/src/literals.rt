@@ -37,7 +37,13 @@ pub fn read_literal(alloc: Global, tokens: &[Token]) -> Result<(Expr, &[Token]),
         return Err(Refused::Syntax(tokens));
     };
     match kind {
-        TokenKind::Int(value) => Ok((Expr::Int { value: *value, place }, rest)),
+        TokenKind::Int(value) => Ok((
+            Expr::Int {
+                value: *value,
+                place,
+            },
+            rest,
+        )),
         TokenKind::Text(text) => match text.copy(alloc) {
             Ok(text) => Ok((Expr::Str { text, place }, rest)),
             Err(_) => Err(Refused::NoMemory),

@@ -38,7 +38,10 @@ fn read_names(alloc: Global, tokens: &[Token]) -> Result<(Items<Name>, &[Token])
 }
 
 /// Names, and the tokens behind the closing mark behind them.
-pub fn read_closed_names(alloc: Global, tokens: &[Token]) -> Result<(Items<Name>, &[Token]), Refused<'_>>
+pub fn read_closed_names(
+    alloc: Global,
+    tokens: &[Token],
+) -> Result<(Items<Name>, &[Token]), Refused<'_>>
     ensures read { ReadsClosedNames tokens.now result }
     ensures shorter { IfOk result (λ p. length p.1.now < length tokens.now) }
 {
@@ -52,7 +55,10 @@ pub fn read_closed_names(alloc: Global, tokens: &[Token]) -> Result<(Items<Name>
 }
 
 /// Parameters, which may be none, and the tokens behind the closing mark behind them.
-pub fn read_parameters(alloc: Global, tokens: &[Token]) -> Result<(Items<Name>, &[Token]), Refused<'_>>
+pub fn read_parameters(
+    alloc: Global,
+    tokens: &[Token],
+) -> Result<(Items<Name>, &[Token]), Refused<'_>>
     ensures read { Reads IsParameters Anything tokens.now result }
     ensures shorter { IfOk result (λ p. length p.1.now < length tokens.now) }
 {

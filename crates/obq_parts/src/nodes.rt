@@ -80,7 +80,14 @@ pub fn loop_node(body: Block, place: u32) -> Expr
 }
 
 /// The name is copied.
-pub fn for_node(alloc: Global, name: &Name, from: Expr, to: Expr, body: Block, place: u32) -> Result<Expr, NoMemory>
+pub fn for_node(
+    alloc: Global,
+    name: &Name,
+    from: Expr,
+    to: Expr,
+    body: Block,
+    place: u32,
+) -> Result<Expr, NoMemory>
     ensures { IfOk result (λ e. e ≡ Expr.For name.now from to body place) }
 {
     let from = Boxed::new(alloc, from);
@@ -95,7 +102,13 @@ pub fn for_node(alloc: Global, name: &Name, from: Expr, to: Expr, body: Block, p
 }
 
 /// The name is copied.
-pub fn foreach_node(alloc: Global, name: &Name, array: Expr, body: Block, place: u32) -> Result<Expr, NoMemory>
+pub fn foreach_node(
+    alloc: Global,
+    name: &Name,
+    array: Expr,
+    body: Block,
+    place: u32,
+) -> Result<Expr, NoMemory>
     ensures { IfOk result (λ e. e ≡ Expr.Foreach name.now array body place) }
 {
     let array = Boxed::new(alloc, array)?;
@@ -145,7 +158,12 @@ pub fn watch_node(alloc: Global, condition: Expr, guard: Expr, place: u32) -> Re
     })
 }
 
-pub fn redirect_node(alloc: Global, object: Expr, target: Expr, place: u32) -> Result<Expr, NoMemory>
+pub fn redirect_node(
+    alloc: Global,
+    object: Expr,
+    target: Expr,
+    place: u32,
+) -> Result<Expr, NoMemory>
     ensures { IfOk result (λ e. e ≡ Expr.Redirect object target place) }
 {
     let object = Boxed::new(alloc, object);
@@ -177,7 +195,12 @@ pub fn bind_node(alloc: Global, name: &Name, value: Expr, place: u32) -> Result<
 }
 
 /// The name is copied.
-pub fn rec_bind_node(alloc: Global, name: &Name, procedure: Proc, place: u32) -> Result<RecBind, NoMemory>
+pub fn rec_bind_node(
+    alloc: Global,
+    name: &Name,
+    procedure: Proc,
+    place: u32,
+) -> Result<RecBind, NoMemory>
     ensures { IfOk result (λ b. b ≡ node.rec_bind name.now procedure place) }
 {
     Ok(RecBind {
@@ -188,7 +211,12 @@ pub fn rec_bind_node(alloc: Global, name: &Name, procedure: Proc, place: u32) ->
 }
 
 /// The name is copied.
-pub fn field_node(alloc: Global, name: &Name, body: FieldExpr, place: u32) -> Result<Field, NoMemory>
+pub fn field_node(
+    alloc: Global,
+    name: &Name,
+    body: FieldExpr,
+    place: u32,
+) -> Result<Field, NoMemory>
     ensures { IfOk result (λ f. f ≡ node.field name.now body place) }
 {
     match name.copy(alloc) {
@@ -213,7 +241,12 @@ pub fn method_node(procedure: Proc) -> FieldExpr
 }
 
 /// The name is copied.
-pub fn alias_node(alloc: Global, name: &Name, target: Expr, place: u32) -> Result<FieldExpr, NoMemory>
+pub fn alias_node(
+    alloc: Global,
+    name: &Name,
+    target: Expr,
+    place: u32,
+) -> Result<FieldExpr, NoMemory>
     ensures { IfOk result (λ b. b ≡ FieldExpr.Alias name.now target place) }
 {
     match name.copy(alloc) {
@@ -240,7 +273,12 @@ pub fn selection(alloc: Global, name: &Name, place: u32) -> Result<Suffix, NoMem
 }
 
 /// The name is copied.
-pub fn invocation(alloc: Global, name: &Name, arguments: Items<Expr>, place: u32) -> Result<Suffix, NoMemory>
+pub fn invocation(
+    alloc: Global,
+    name: &Name,
+    arguments: Items<Expr>,
+    place: u32,
+) -> Result<Suffix, NoMemory>
     ensures { IfOk result (λ s. s ≡ Suffix.Invoke name.now arguments place) }
 {
     Ok(Suffix::Invoke {

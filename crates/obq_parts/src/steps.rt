@@ -39,7 +39,10 @@ pub fn take_word(word: Word, tokens: &[Token]) -> Option<(u32, &[Token])>
 {
     let (token, rest) = tokens.split_first()?;
     match (word, &token.kind) {
-        (Word::Keyword(row), TokenKind::Keyword(found)) if *found == row => Some((token.place, rest)),
+        (Word::Keyword(row), TokenKind::Keyword(found)) if *found == row => Some((
+            token.place,
+            rest,
+        )),
         (Word::Symbol(row), TokenKind::Symbol(found)) if *found == row => Some((token.place, rest)),
         _ => None,
     }
@@ -103,7 +106,10 @@ pub fn ends_expr(tokens: &[Token]) -> bool
     match tokens.first() {
         Some(token) => match &token.kind {
             TokenKind::Keyword(row) => !matches!(*row, 1 | 15 | 16 | 22),
-            TokenKind::Symbol(row) => !matches!(*row, 0 | 1 | 2 | 4 | 5 | 7 | 8 | 9 | 12 | 13 | 16 | 17 | 18),
+            TokenKind::Symbol(row) => !matches!(
+                *row,
+                0 | 1 | 2 | 4 | 5 | 7 | 8 | 9 | 12 | 13 | 16 | 17 | 18
+            ),
             _ => true,
         },
         None => true,
@@ -134,7 +140,9 @@ pub fn begins_suffix(tokens: &[Token]) -> bool
 }
 
 /// What was read, where its item ends behind it.
-pub fn ended<'a, T: Drop>(read: Result<(T, &'a [Token]), Refused<'a>>) -> Result<(T, &'a [Token]), Refused<'a>>
+pub fn ended<'a, T: Drop>(
+    read: Result<(T, &'a [Token]), Refused<'a>>,
+) -> Result<(T, &'a [Token]), Refused<'a>>
     ensures { Ended read.entry result }
 {
     match read {

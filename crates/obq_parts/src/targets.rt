@@ -69,7 +69,12 @@ pub fn target_of(alloc: Global, tokens: &[Token], chain: Chain) -> Result<Target
 }
 
 /// An item that assigns a value.
-pub fn assignment(alloc: Global, target: ValueTarget, value: Expr, place: u32) -> Result<Item, NoMemory>
+pub fn assignment(
+    alloc: Global,
+    target: ValueTarget,
+    value: Expr,
+    place: u32,
+) -> Result<Item, NoMemory>
     ensures { IfOk result (λ item. item ≡ assignment_of target value place) }
 {
     match target {
@@ -91,7 +96,12 @@ pub fn assignment(alloc: Global, target: ValueTarget, value: Expr, place: u32) -
 }
 
 /// An item that assigns to a field.
-pub fn field_assignment(alloc: Global, target: FieldTarget, body: FieldExpr, place: u32) -> Result<Item, NoMemory>
+pub fn field_assignment(
+    alloc: Global,
+    target: FieldTarget,
+    body: FieldExpr,
+    place: u32,
+) -> Result<Item, NoMemory>
     ensures { IfOk result (λ item. item ≡ set_field_of target body place) }
 {
     let FieldTarget { object, name } = target;

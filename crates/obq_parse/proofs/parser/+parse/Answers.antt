@@ -1,4 +1,4 @@
-use Rattle.std.proofs.Common.{◌+◌, ◌≡◌}
+use Rattle.std.proofs.Common.{◌+◌}
 use Rattle.obq_parts.specs.declared.targets.Target.TheVariants as target
 use Rattle.obq_sequence.proofs.Bindings as procs
 use Rattle.obq_grammar.proofs.Theory.{as_tree, done, move, re, upto}

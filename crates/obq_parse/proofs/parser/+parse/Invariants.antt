@@ -1,4 +1,4 @@
-use Rattle.std.proofs.Common.{◌≤◌, length, suc, ℕ, ◌+◌, ◌-◌, ◌*◌}
+use Rattle.std.proofs.Common.{◌≤◌, length, suc, ◌+◌, ◌-◌, ◌*◌}
 use Rattle.obq_model.specs.Nodes.{next}
 use Rattle.obq_model.specs.Grammar.{IsArgs, IsBinds, IsElsifs, IsFields, IsGuards, IsLinks, IsMore, IsRecBinds, IsSuffixes}
 use Rattle.obq_grammar.specs.Follow.{EndsArgs, EndsBlock, EndsElsifs, EndsGuards, EndsItem, EndsLevel, EndsNames, EndsSuffixed}

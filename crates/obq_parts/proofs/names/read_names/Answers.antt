@@ -1,4 +1,4 @@
-use Rattle.std.proofs.Common.{List, ℕ, arith}
+use Rattle.std.proofs.Common.{arith}
 use Rattle.obq_model.specs.Grammar.{IsNames}
 use Rattle.obq_grammar.proofs.Theory.{re, as_tree}
 use Rattle.obq_sequence.proofs.Bindings.{names_at_1}

@@ -1,7 +1,7 @@
 use Rattle.obq_grammar.proofs.Top.{whole_near, whole_stop}
 use Rattle.obq_parts.proofs.Pass.{pass}
 use Rattle.obq_parse.proofs.Tests.{is_true, not_true}
-use Rattle.obq_parse.proofs.parser.read_whole.Goals as goal
+use Rattle.obq_parse.proofs.program.read_whole.Goals as goal
 
 pub returns-in-Err-clause-read : goal.returns-in-Err-clause-read
 returns-in-Err-clause-read c = pass c.in-Err.refused (λ z f. whole_near f) c.in-Err.ensures.read

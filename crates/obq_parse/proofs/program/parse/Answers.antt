@@ -1,11 +1,10 @@
-use Rattle.std.proofs.Common.{Err, arith, subst}
 use Rattle.obq_grammar.proofs.Top.{whole}
 use Rattle.obq_model.specs.Grammar.{IsBlock}
 use Rattle.obq_grammar.specs.Fails.{Fails}
 use Rattle.obq_grammar.specs.Follow.{EndsProgram}
 use Rattle.obq_grammar.proofs.Top.{first_fault}
 use Rattle.obq_parse.proofs.Whole.{fault_within}
-use Rattle.obq_parse.proofs.parser.parse.Goals as goal
+use Rattle.obq_parse.proofs.program.parse.Goals as goal
 
 pub overflow_sub-result : goal.overflow_sub-result
 overflow_sub-result c =
