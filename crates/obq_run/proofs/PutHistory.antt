@@ -13,6 +13,7 @@ use Rattle.obq_model.specs.Grammar.{Derives, IsBlock}
 use Rattle.obq_model.specs.Nodes.{block, place, token}
 use Rattle.obq_model.specs.PutTexts.{AreGroups, IsPutTexts, group, no_group}
 use Rattle.obq_model.specs.Replay.{TakeTurns, replay}
+use Rattle.obq_model.specs.Sources.{IsAccepted}
 use Rattle.obq_model.specs.Tokens.{IsReading}
 use Rattle.obq_model.specs.Widths.{width_of}
 use Rattle.obq_run.specs.History as history
@@ -63,6 +64,16 @@ group_width ts us bytes g =
 groups_width : {texts : List (List ℕ)} {ts rest : List Token} → AreGroups texts ts rest → 22 * length texts + width_of rest ≤ width_of ts
 groups_width no_group = omega arith
 groups_width (group {text} {texts} {ts} {us} {rest} e more) = omega (arith, group_width ts us text (group_tokens ts text us e), groups_width more)
+
+-- ---- the tree
+
+-- a source that only writes texts is accepted
+pub accepted_of : (source : List ℕ) (tokens : List Token) (texts : List (List ℕ)) → IsReading source tokens → IsPutTexts tokens texts → (tree : Block) × IsAccepted source tokens tree
+accepted_of source tokens texts is_read (rest, groups, end) =
+    let prints = groups_print groups in
+    let last : (p : ℕ) × (rest ≡ token kind.EndOfSource p ∷ []) = end_alone rest end (ended_rest groups (ended source tokens is_read)) in
+    let tree : Block = block (map item_of prints.prints) (place tokens) in
+    (tree, record { reading = is_read; derived = (last.0, subst (λ r. IsBlock tree tokens r) last.1 prints.block) })
 
 -- ---- the run
 

@@ -1,4 +1,4 @@
--- What a run of sources is.
+-- What a run and a check of sources are.
 use Rattle.std.specs.Prelude.{List, None, Option, Some, [], length, map, slice_get, ℕ, ◌≡◌, ◌≤◌, ◌∷◌}
 use Rattle.std.specs.List.{zip}
 use Rattle.obq_base.specs.declared.acts.Report.{Report}
@@ -15,7 +15,7 @@ use Rattle.obq_model.specs.Sources.{AreAccepted, IsAccepted, IsFirstRefused}
 use Rattle.obq_model.specs.Tokens.{IsReading}
 use Rattle.obq_run.specs.declared.ends.Cause.{Cause}
 use Rattle.obq_run.specs.declared.history.Ran.{Ran}
-use Rattle.obq_run.specs.Ends.{IsRanOrNoMemory}
+use Rattle.obq_run.specs.Ends.{IsCheckedOrNoMemory, IsRanOrNoMemory}
 use Rattle.obq_run.specs.Known.{AreHeld, AreTold}
 
 -- one thread, which has ended by a value
@@ -65,10 +65,18 @@ pub record IsRefusalOf (holds : List ℕ → Option (List ℕ)) (limit : ℕ) (p
   pub held : AreHeld holds limit paths sources
   pub refused : IsFirstRefused sources k fault
 
--- the source has tokens, and this of them is the first that differs from those of a source that runs
+-- Sources within the limit, which are what the paths hold where they tell that, are accepted.
+pub record IsCheckOf (holds : List ℕ → Option (List ℕ)) (limit : ℕ) (paths : List (List ℕ)) : Type 0 where
+  pub sources : List (List ℕ)
+  pub held : AreHeld holds limit paths sources
+  pub trees : List Block
+  pub accepted : AreAccepted sources trees
+
+-- the source is accepted, and this of its tokens is the first that differs from those of a source that runs
 pub record IsNotYet (source : List ℕ) (k : ℕ) : Type 0 where
   pub tokens : List Token
-  pub reading : IsReading source tokens
+  pub tree : Block
+  pub accepted : IsAccepted source tokens tree
   pub stops : StopsAt tokens k
 
 -- One source within the limit, which is what the path holds where it tells that, is not run yet because of this token.
@@ -87,9 +95,14 @@ abbrev pub AllWithin : ℕ → List (List ℕ) → Type 0
 AllWithin limit [] = Unit {0}
 AllWithin limit (source ∷ sources) = (length source ≤ limit) × AllWithin limit sources
 
--- Where the path holds a source within the limit that is accepted and only writes texts, and no count of faults rose, it ran, or there was no
--- memory.
+-- Where the path holds a source within the limit whose tokens only write texts, and no count of faults rose, it ran, or there was no memory.
 abbrev pub RunCompletes : (List ℕ → Option (List ℕ)) → ℕ → List (List ℕ) → (List ℕ → Type 0) → Type 0 → Cause → Type 0
 RunCompletes holds limit paths Rises output_rose cause =
-    (source : List ℕ) (tokens : List Token) (tree : Block) (texts : List (List ℕ)) → AreTold holds paths (source ∷ []) → (length source ≤ limit) → IsAccepted source tokens tree
+    (source : List ℕ) (tokens : List Token) (texts : List (List ℕ)) → AreTold holds paths (source ∷ []) → (length source ≤ limit) → IsReading source tokens
     → IsPutTexts tokens texts → NoneRose Rises paths → ¬ output_rose → IsRanOrNoMemory cause
+
+-- Where the paths hold sources within the limit that are accepted, and no count of faults rose, the cause says so, or there was no memory.
+abbrev pub CheckCompletes : (List ℕ → Option (List ℕ)) → ℕ → List (List ℕ) → (List ℕ → Type 0) → Type 0 → Cause → Type 0
+CheckCompletes holds limit paths Rises output_rose cause =
+    (sources : List (List ℕ)) (trees : List Block) → AreTold holds paths sources → AllWithin limit sources → AreAccepted sources trees → NoneRose Rises paths → ¬ output_rose
+    → IsCheckedOrNoMemory cause

@@ -16,11 +16,11 @@ use crate::history::{Ran, run_texts};
 use crate::journals::Journal;
 use crate::put_texts::{Unreadable, read_texts};
 use crate::reading::{SOURCE_LIMIT, Stopped, Unread, read_sources};
+use crate::sources::{Unaccepted, accepted_tokens};
 use crate::texts::{write_cause, write_run};
 use crate::words::SiteWord;
 use obq_base::{Report, SourceFault};
 use obq_io::{Files, Sink};
-use obq_lex::{LexRefused, lex};
 use std::alloc::Global;
 
 /// How many turns a thread has.
@@ -40,12 +40,10 @@ fn run_source(alloc: Global, source: &[u8]) -> Result<Ran, Unrun>
     ensures ran { IfOk result (λ r. IsEndOf (source.now ∷ []) TURNS r.journal (r.bytes.items ∷ []) one_ended) }
     ensures unrun { IfErr result (λ why. IfUnrun why (IsFault source.now) (IsNotYet source.now)) }
 {
-    let tokens = match lex(alloc, source) {
+    let tokens = match accepted_tokens(alloc, source) {
         Ok(tokens) => tokens,
-        Err(LexRefused::Fault { kind, place }) => {
-            return Err(Unrun::Fault(SourceFault::Lexical { kind, place }));
-        }
-        Err(LexRefused::NoMemory) => return Err(Unrun::NoMemory),
+        Err(Unaccepted::Fault(fault)) => return Err(Unrun::Fault(fault)),
+        Err(Unaccepted::NoMemory) => return Err(Unrun::NoMemory),
     };
     let texts = match read_texts(alloc, &tokens) {
         Ok(texts) => texts,
@@ -70,7 +68,7 @@ fn cause_of_unrun(unrun: Unrun) -> Cause
 }
 
 /// The cause where a file wasn't read.
-fn cause_of_stop(stopped: Stopped) -> Cause
+pub fn cause_of_stop(stopped: Stopped) -> Cause
     ensures { result ≡ stop_cause stopped }
 {
     match stopped.why {
