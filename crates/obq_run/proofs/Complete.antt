@@ -15,7 +15,7 @@ use Rattle.obq_run.specs.declared.ends.Cause.{Cause}
 use Rattle.obq_run.specs.declared.ends.Cause.TheVariants.{Checked, NoMemory, NotYet, Ran, ReadFault, Refused, SourceTooLong, Usage, WriteFault}
 use Rattle.obq_run.specs.Ends.{IfNotYet, IfReadFault, IfRefused, IfTooLong, IsCheckFinish, IsCheckRefusal, IsRunFinish, IsRunRefusal, OnWriteFault}
 use Rattle.obq_run.specs.Known.{AreHeld, AreTold, IsIt, WhereTold}
-use Rattle.obq_run.specs.Runs.{AllWithin, CheckCompletes, IsNotYetOf, IsRefusalOf, NoneRose, RunCompletes}
+use Rattle.obq_run.specs.Runs.{AllWithin, CheckCompletes, IsNotYet, IsNotYetOf, IsRefusalOf, NoneRose, NotYetCompletes, OnlyWrite, RunCompletes}
 use Rattle.obq_run.proofs.PutHistory.{accepted_of}
 use Rattle.obq_run.proofs.PutTexts.{not_both}
 
@@ -112,6 +112,36 @@ run_finished holds limit paths Rises out (NotYet s k) only fault = absurd only
 run_finished holds limit paths Rises out (ReadFault file) only fault = absurd only
 run_finished holds limit paths Rises out NoMemory only fault = absurd only
 run_finished holds limit paths Rises out Checked only fault = absurd only
+
+-- ---- a source that doesn't run yet
+
+pub not_yet_refused : (holds : List ℕ → Option (List ℕ)) (limit : ℕ) (paths : List (List ℕ)) (Rises : List ℕ → Type 0) (output_rose : Type 0) (cause : Cause) → IsRunRefusal cause
+    → IfReadFault cause (λ file. IsSomeAnd (slice_get paths file) Rises) → IfTooLong cause (λ s. IsSomeAnd (slice_get paths s) (λ p. WhereTold (holds p) (λ xs. limit < length xs)))
+    → IfRefused cause (IsRefusalOf holds limit paths) → NotYetCompletes holds limit paths Rises output_rose cause
+not_yet_refused holds limit paths Rises out NoMemory only read long faulty = λ source k told within yet none calm. tt
+not_yet_refused holds limit paths Rises out (NotYet s j) only read long faulty = λ source k told within yet none calm. tt
+not_yet_refused holds limit paths Rises out (ReadFault file) only read long faulty = λ source k told within yet none calm. absurd (none_at Rises paths file none read)
+not_yet_refused holds limit paths Rises out (SourceTooLong s) only read long faulty =
+    λ source k told within yet none calm. absurd (too_long_at holds limit paths (source ∷ []) s told (within, tt) long)
+not_yet_refused holds limit paths Rises out (Refused s fault) only read long faulty =
+    λ source k told within yet none calm. absurd (refusal_not holds limit paths (source ∷ []) (yet.tree ∷ []) s fault told ((yet.tokens, yet.accepted), tt) faulty)
+not_yet_refused holds limit paths Rises out Ran only read long faulty = absurd only
+not_yet_refused holds limit paths Rises out Checked only read long faulty = absurd only
+not_yet_refused holds limit paths Rises out (Usage word) only read long faulty = absurd only
+not_yet_refused holds limit paths Rises out WriteFault only read long faulty = absurd only
+
+-- what ran only writes texts
+form_not : (holds : List ℕ → Option (List ℕ)) (limit : ℕ) (paths sources : List (List ℕ)) (source : List ℕ) (k : ℕ) → AreTold holds paths (source ∷ []) → AreHeld holds limit paths sources → OnlyWrite sources
+    → IsNotYet source k → ⊥
+form_not holds limit paths sources source k told held form yet =
+    let one : OnlyWrite (source ∷ []) = subst OnlyWrite (same_sources holds limit paths (source ∷ []) sources told held) form in
+    let tokens = one.0.0 in
+    let texts = one.0.1 in
+    stops_not texts k (one_reading source yet.tokens tokens yet.accepted.reading one.0.2) one.0.3 yet.stops
+
+pub not_yet_finished : (holds : List ℕ → Option (List ℕ)) (limit : ℕ) (paths sources : List (List ℕ)) (Rises : List ℕ → Type 0) (output_rose : Type 0) (cause : Cause) → AreHeld holds limit paths sources
+    → OnlyWrite sources → NotYetCompletes holds limit paths Rises output_rose cause
+not_yet_finished holds limit paths sources Rises out cause held form = λ source k told within yet none calm. absurd (form_not holds limit paths sources source k told held form yet)
 
 -- ---- a check
 

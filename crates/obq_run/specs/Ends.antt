@@ -230,6 +230,18 @@ IsRanOrNoMemory (ReadFault file) = ⊥
 IsRanOrNoMemory WriteFault = ⊥
 IsRanOrNoMemory NoMemory = ⊤
 
+-- it doesn't run yet, or no memory was left
+abbrev pub IsNotYetOrNoMemory : Cause → Type 0
+IsNotYetOrNoMemory Ran = ⊥
+IsNotYetOrNoMemory Checked = ⊥
+IsNotYetOrNoMemory (Usage word) = ⊥
+IsNotYetOrNoMemory (SourceTooLong source) = ⊥
+IsNotYetOrNoMemory (Refused source fault) = ⊥
+IsNotYetOrNoMemory (NotYet source token) = ⊤
+IsNotYetOrNoMemory (ReadFault file) = ⊥
+IsNotYetOrNoMemory WriteFault = ⊥
+IsNotYetOrNoMemory NoMemory = ⊤
+
 -- a file wasn't read because of a fault, or because it is too long, as P and Q say; for want of memory anything may hold
 abbrev pub MatchUnread : Unread → Type 0 → Type 0 → Type 0
 MatchUnread unread.Fault P Q = P

@@ -15,7 +15,7 @@ use Rattle.obq_model.specs.Sources.{AreAccepted, IsAccepted, IsFirstRefused}
 use Rattle.obq_model.specs.Tokens.{IsReading}
 use Rattle.obq_run.specs.declared.ends.Cause.{Cause}
 use Rattle.obq_run.specs.declared.history.Ran.{Ran}
-use Rattle.obq_run.specs.Ends.{IsCheckedOrNoMemory, IsRanOrNoMemory}
+use Rattle.obq_run.specs.Ends.{IsCheckedOrNoMemory, IsNotYetOrNoMemory, IsRanOrNoMemory}
 use Rattle.obq_run.specs.Known.{AreHeld, AreTold}
 
 -- one thread, which has ended by a value
@@ -52,11 +52,17 @@ pub record IsRunOf (holds : List ℕ → Option (List ℕ)) (limit : ℕ) (names
   pub output_text : text ≡ run_text (zip names outputs) threads
   pub report_status : ended_status ≡ status threads
 
+-- each source has tokens that only write texts
+abbrev pub OnlyWrite : List (List ℕ) → Type 0
+OnlyWrite [] = Unit {0}
+OnlyWrite (source ∷ sources) = ((tokens : List Token) × (texts : List (List ℕ)) × IsReading source tokens × IsPutTexts tokens texts) × OnlyWrite sources
+
 -- Sources within the limit, which are what the paths hold where they tell that, run with this journal, and the writer of the first has these
 -- bytes.
 pub record RunsOf (holds : List ℕ → Option (List ℕ)) (limit : ℕ) (paths : List (List ℕ)) (turns : ℕ) (ran : Ran) : Type 0 where
   pub sources : List (List ℕ)
   pub held : AreHeld holds limit paths sources
+  pub form : OnlyWrite sources
   pub end : IsEndOf sources turns ran.journal (ran.bytes.items ∷ []) one_ended
 
 -- Of sources within the limit, which are what the paths hold where they tell that, this one is the first that has a fault, and this is its first.
@@ -100,6 +106,12 @@ abbrev pub RunCompletes : (List ℕ → Option (List ℕ)) → ℕ → List (Lis
 RunCompletes holds limit paths Rises output_rose cause =
     (source : List ℕ) (tokens : List Token) (texts : List (List ℕ)) → AreTold holds paths (source ∷ []) → (length source ≤ limit) → IsReading source tokens
     → IsPutTexts tokens texts → NoneRose Rises paths → ¬ output_rose → IsRanOrNoMemory cause
+
+-- Where the path holds a source within the limit that is accepted and does more than write texts, and no count of faults rose, it doesn't run yet, or
+-- there was no memory.
+abbrev pub NotYetCompletes : (List ℕ → Option (List ℕ)) → ℕ → List (List ℕ) → (List ℕ → Type 0) → Type 0 → Cause → Type 0
+NotYetCompletes holds limit paths Rises output_rose cause =
+    (source : List ℕ) (k : ℕ) → AreTold holds paths (source ∷ []) → (length source ≤ limit) → IsNotYet source k → NoneRose Rises paths → ¬ output_rose → IsNotYetOrNoMemory cause
 
 -- Where the paths hold sources within the limit that are accepted, and no count of faults rose, the cause says so, or there was no memory.
 abbrev pub CheckCompletes : (List ℕ → Option (List ℕ)) → ℕ → List (List ℕ) → (List ℕ → Type 0) → Type 0 → Cause → Type 0

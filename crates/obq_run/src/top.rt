@@ -7,7 +7,7 @@ ghost use Rattle.obq_model.specs.CommandLine.{bad_word, is_checking};
 ghost use Rattle.obq_model.specs.Output.{check_text};
 ghost use Rattle.obq_run.specs.Ends.{IfNotYet, IfReadFault, IfRefused, IfTooLong, IsRefusal, MatchUsage, OnChecked, OnRan, OnWriteFault, line_of, status_of};
 ghost use Rattle.obq_run.specs.Known.{GetsPrefix, WhereTold};
-ghost use Rattle.obq_run.specs.Runs.{CheckCompletes, IsCheckOf, IsNotYetOf, IsRefusalOf, IsRunOf, RunCompletes};
+ghost use Rattle.obq_run.specs.Runs.{CheckCompletes, IsCheckOf, IsNotYetOf, IsRefusalOf, IsRunOf, NotYetCompletes, RunCompletes};
 ghost use Rattle.obq_run.specs.Words.{bytes_of, given_names, given_paths};
 
 use crate::check::check_sources;
@@ -61,6 +61,8 @@ pub fn obliq<R: Threads + Wait + Sync, F: Files, O: Sink, E: Sink, G: Gate>(
     ensures status { result.status ≡ status_of result.cause }
     ensures completes { bad_word (bytes_of words.now) ≡ None → is_checking (bytes_of words.now) ≡ false
         → RunCompletes (F.holds files.old) SOURCE_LIMIT (given_paths (bytes_of words.now)) (λ p. Rose (F.faults files.old p) (F.faults files.new p)) (Rose (O.faults out.old) (O.faults out.new)) result.cause }
+    ensures completes_not_yet { bad_word (bytes_of words.now) ≡ None → is_checking (bytes_of words.now) ≡ false
+        → NotYetCompletes (F.holds files.old) SOURCE_LIMIT (given_paths (bytes_of words.now)) (λ p. Rose (F.faults files.old p) (F.faults files.new p)) (Rose (O.faults out.old) (O.faults out.new)) result.cause }
     ensures completes_check { bad_word (bytes_of words.now) ≡ None → is_checking (bytes_of words.now) ≡ true
         → CheckCompletes (F.holds files.old) SOURCE_LIMIT (given_paths (bytes_of words.now)) (λ p. Rose (F.faults files.old p) (F.faults files.new p)) (Rose (O.faults out.old) (O.faults out.new)) result.cause }
 

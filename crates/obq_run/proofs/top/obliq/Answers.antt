@@ -2,7 +2,7 @@ use Rattle.std.proofs.Common.{List, Ok, subst, sym, ℕ}
 use Rattle.obq_io.specs.Causes.{Rose}
 use Rattle.obq_run.specs.declared.words.Order.TheVariants.{Check, Run}
 use Rattle.obq_run.specs.declared.words.SiteWord.{SiteWord}
-use Rattle.obq_run.specs.Runs.{CheckCompletes, RunCompletes}
+use Rattle.obq_run.specs.Runs.{CheckCompletes, NotYetCompletes, RunCompletes}
 use Rattle.obq_run.specs.Words.{Answers, AreInForm, AreSites, bytes_of, paths_of}
 use Rattle.obq_run.proofs.InForm.{in_form}
 use Rattle.obq_run.proofs.top.obliq.Goals as goal
@@ -26,6 +26,20 @@ returns-in-Ok-Run-clause-completes g c =
     let at_sites : RunCompletes holds 1048576 (paths_of c.in-Ok-Run.sites.items) Rises output cause =
     subst (λ (s : List SiteWord). RunCompletes holds 1048576 (paths_of s) Rises output cause) c.deref.ensures.value c.run_sites.ensures.completes in
     λ good run. subst (λ paths. RunCompletes holds 1048576 paths Rises output cause) sites.paths at_sites
+
+pub returns-in-Ok-Run-clause-completes_not_yet : goal.returns-in-Ok-Run-clause-completes_not_yet
+returns-in-Ok-Run-clause-completes_not_yet g c =
+    let files = g.F.Files in
+    let words : List (List ℕ) = bytes_of c.args.words.now in
+    let holds = files.holds c.args.files.now in
+    let Rises : List ℕ → Type 0 = λ p. Rose (files.faults c.args.files.now p) (files.faults c.run_sites.new.files p) in
+    let output : Type 0 = Rose (g.O.Sink.faults c.args.out.now) (g.O.Sink.faults c.run_sites.new.out) in
+    let cause = c.run_sites.result.cause in
+    let given : Answers words (Ok (Run c.in-Ok-Run.sites)) = subst (λ order. Answers words (Ok order)) c.in-Ok-Run.field-0-is c.in-Ok-Run.ensures in
+    let sites : AreSites words c.in-Ok-Run.sites.items = given.2 in
+    let at_sites : NotYetCompletes holds 1048576 (paths_of c.in-Ok-Run.sites.items) Rises output cause =
+    subst (λ (s : List SiteWord). NotYetCompletes holds 1048576 (paths_of s) Rises output cause) c.deref.ensures.value c.run_sites.ensures.completes_not_yet in
+    λ good run. subst (λ paths. NotYetCompletes holds 1048576 paths Rises output cause) sites.paths at_sites
 
 pub returns-in-Ok-Check-clause-completes_check : goal.returns-in-Ok-Check-clause-completes_check
 returns-in-Ok-Check-clause-completes_check g c =
