@@ -24,4 +24,10 @@ pub use top::obliq;
 pub use words::SiteWord;
 
 #[cfg(test)]
+mod calls;
+#[cfg(test)]
+mod shapes;
+#[cfg(test)]
+mod tables;
+#[cfg(test)]
 mod tests;
