@@ -274,7 +274,7 @@ const REFUSED: [(&str, u32); 268] = [
     ("a /", 2),
     ("a %", 2),
     ("a * * b", 2),
-    ("a is not", 3),
+    ("a is not b", 3),
     ("a orif andif b", 2),
     // operands
     ("a.", 2),
