@@ -456,9 +456,8 @@ fn size_of_call<R: Threads + Wait + Sync>(
 }
 
 #[test]
-fn sources_at_the_limits(rt: HostRuntime) -> Result<(), Fail> {
+fn the_longest_source(rt: HostRuntime) -> Result<(), Fail> {
     let alloc = rt.alloc();
-    // The largest source, of spaces and of statements.
     let mut spaces = vec![in alloc; b' '; 1_048_576]?;
     assert_eq!(rt;
         size_of_call(&rt, alloc, RUN, &spaces)?,
@@ -476,6 +475,12 @@ fn sources_at_the_limits(rt: HostRuntime) -> Result<(), Fail> {
         size_of_call(&rt, alloc, CHECK, &spaces)?,
         (too_long, 0, 19)
     );
+    Ok(())
+}
+
+#[test]
+fn the_most_statements(rt: HostRuntime) -> Result<(), Fail> {
+    let alloc = rt.alloc();
     let mut statements = Vec::new(alloc);
     for _ in 0..45_590 {
         statements.extend_from_slice(b"wr_putText(stdout,\"a\");")?;
@@ -484,8 +489,12 @@ fn sources_at_the_limits(rt: HostRuntime) -> Result<(), Fail> {
         size_of_call(&rt, alloc, RUN, &statements)?,
         (Cause::Ran, 45_648, 0)
     );
+    Ok(())
+}
 
-    // The longest text, and one byte more.
+#[test]
+fn the_longest_text(rt: HostRuntime) -> Result<(), Fail> {
+    let alloc = rt.alloc();
     for length in [65_536, 65_537] {
         let mut text = Vec::from_slice(alloc, b"wr_putText(stdout,\"")?;
         text.extend_from_slice(&vec![in alloc; b'a'; length]?)?;
