@@ -1,5 +1,6 @@
 -- The sites that a command line gives are in form.
-use Rattle.std.proofs.Common.{Bool, List, None, Option, Some, [], arith, bytes_eq, cond, false, refl, subst, sym, true, ℕ, ◌&&◌, ◌≡◌, ◌∙◌, ◌∷◌}
+use Rattle.std.proofs.lemmas.List.{length-map}
+use Rattle.std.proofs.Common.{ap, Bool, List, None, Option, Some, [], arith, bytes_eq, cond, false, length, refl, subst, sym, true, ℕ, ◌&&◌, ◌≡◌, ◌∙◌, ◌∷◌}
 use Rattle.std.specs.List.{IsDistinct, list_all}
 use Rattle.obq_model.specs.CommandLine.{bad_behind_command, bad_word, is_command, is_site_name, is_site_word, name_part}
 use Rattle.obq_run.specs.declared.words.SiteWord.{SiteWord}
@@ -37,6 +38,10 @@ distinct_one : (name : List ℕ) → IsDistinct bytes_eq (name ∷ [])
 unfolding IsDistinct
 distinct_one name = (tt, tt)
 
+distinct_two : IsDistinct bytes_eq ((65 ∷ []) ∷ (69 ∷ []) ∷ [])
+unfolding IsDistinct
+distinct_two = ((refl, tt), (tt, tt))
+
 pub in_form : (words : List (List ℕ)) (sites : List SiteWord) → bad_word words ≡ None → AreSites words sites → AreInForm sites
 in_form words sites good are =
     let one = given_one words good in
@@ -46,4 +51,15 @@ in_form words sites good are =
       most = omega (arith, are.one);
       named = subst (λ ns. list_all is_site_name ns ≡ true) (sym names) (one_passes (is_site_name one.0) one.2);
       different = subst (λ ns. IsDistinct bytes_eq ns) (sym names) (distinct_one one.0);
+    }
+
+-- the sites A and E are in form
+pub two_in_form : (sites : List SiteWord) → names_of sites ≡ (65 ∷ []) ∷ (69 ∷ []) ∷ [] → AreInForm sites
+two_in_form sites names =
+    let two : length sites ≡ 2 = sym (length-map sites (λ s. s.name)) ∙ ap length names in
+    record {
+      some = omega (arith, two);
+      most = omega (arith, two);
+      named = subst (λ ns. list_all is_site_name ns ≡ true) (sym names) refl;
+      different = subst (λ ns. IsDistinct bytes_eq ns) (sym names) distinct_two;
     }

@@ -26,6 +26,8 @@ pub use words::SiteWord;
 #[cfg(test)]
 mod calls;
 #[cfg(test)]
+mod several;
+#[cfg(test)]
 mod shapes;
 #[cfg(test)]
 mod tables;
