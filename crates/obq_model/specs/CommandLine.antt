@@ -1,4 +1,4 @@
--- The words behind the program's name: `run`, and one site word.
+-- The words behind the program's name: `run` or `check`, and one site word.
 use Rattle.std.specs.Prelude.{Bool, List, None, Option, Some, [], bytes_eq, codes, false, if◌then◌else◌, length, nat_le, nat_lt, not, ℕ, ◌&&◌, ◌==◌, ◌||◌, ◌∷◌}
 use Rattle.std.specs.Char.{is_ascii_alphabetic, is_ascii_alphanumeric}
 use Rattle.std.specs.List.{after_first, before_first, list_all, position_or_len}
@@ -26,8 +26,16 @@ path_part word = after_first is_cut word
 abbrev pub is_site_word : List ℕ → Bool
 is_site_word word = nat_lt (position_or_len is_cut word) (length word) && is_site_name (name_part word) && not (length (path_part word) == 0)
 
+abbrev pub is_check : List ℕ → Bool
+is_check word = bytes_eq word (codes "check")
+
 abbrev pub is_command : List ℕ → Bool
-is_command word = bytes_eq word (codes "run")
+is_command word = bytes_eq word (codes "run") || is_check word
+
+-- the command is `check`
+abbrev pub is_checking : List (List ℕ) → Bool
+is_checking [] = false
+is_checking (word ∷ words) = is_check word
 
 -- behind a site word no word can stand
 abbrev pub bad_behind_site : List (List ℕ) → Option ℕ

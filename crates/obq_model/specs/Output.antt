@@ -1,4 +1,4 @@
--- The texts that a call writes: the output of a run, and the lines that tell a refusal.
+-- The texts that a call writes: the output of a run, the lines of accepted sources, and the lines that tell a refusal.
 use Rattle.std.specs.Prelude.{List, [], codes, length, ℕ, ◌++◌, ◌∷◌}
 use Rattle.std.specs.List.{flat_map}
 use Rattle.std.specs.Fmt.{decimal}
@@ -24,6 +24,14 @@ report_line r =
 -- the output of a run: each site in order, and the threads
 abbrev pub run_text : List (List ℕ × List ℕ) → Report → List ℕ
 run_text sites r = flat_map (λ s. site_text s.0 s.1) sites ++ report_line r
+
+-- the source of this site is accepted
+abbrev pub ok_line : List ℕ → List ℕ
+ok_line name = name ++ (codes " ok" ++ newline)
+
+-- the sources of all these sites are
+abbrev pub check_text : List (List ℕ) → List ℕ
+check_text names = flat_map ok_line names
 
 -- the kind of a lexical fault, as it is told
 abbrev pub kind_text : LexKind → List ℕ

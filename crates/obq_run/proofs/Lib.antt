@@ -1,5 +1,7 @@
 pub mod Complete
+pub mod Examined
 pub mod Held
+pub mod InForm
 pub mod Printed
 pub mod PutHistory
 pub mod PutTexts

@@ -3,16 +3,21 @@ use Rattle.std.specs.Prelude.{List, [], slice_index_or, ℕ, ⊤}
 use Rattle.obq_base.specs.declared.faults.SourceFault.{SourceFault}
 use Rattle.obq_model.specs.Output.{no_memory_line, not_yet_line, read_fault_line, refused_line, too_long_line, usage_line, write_fault_line}
 use Rattle.obq_run.specs.declared.ends.Cause.{Cause}
-use Rattle.obq_run.specs.declared.ends.Cause.TheVariants.{NoMemory, NotYet, Ran, ReadFault, Refused, SourceTooLong, Usage, WriteFault}
+use Rattle.obq_run.specs.declared.ends.Cause.TheVariants.{Checked, NoMemory, NotYet, Ran, ReadFault, Refused, SourceTooLong, Usage, WriteFault}
 use Rattle.obq_run.specs.declared.reading.Unread.{Unread}
 use Rattle.obq_run.specs.declared.reading.Unread.TheVariants as unread
 use Rattle.obq_run.specs.declared.reading.Stopped.{Stopped}
 use Rattle.obq_run.specs.declared.run.Unrun.{Unrun}
 use Rattle.obq_run.specs.declared.run.Unrun.TheVariants as unrun
+use Rattle.obq_run.specs.declared.sources.Unaccepted.{Unaccepted}
+use Rattle.obq_run.specs.declared.sources.Unaccepted.TheVariants as unaccepted
+use Rattle.obq_run.specs.declared.sources.Refusal.{Refusal}
+use Rattle.obq_run.specs.declared.sources.Refusal.TheVariants as refusal
 
 -- the status of a call that ended so, where a run ended with every thread ended by a value
 abbrev pub status_of : Cause → ℕ
 status_of Ran = 0
+status_of Checked = 0
 status_of (Usage word) = 2
 status_of (SourceTooLong source) = 7
 status_of (Refused source fault) = 3
@@ -21,9 +26,10 @@ status_of (ReadFault file) = 4
 status_of WriteFault = 5
 status_of NoMemory = 6
 
--- the line that tells the cause of a call on sites of these names; nothing where it ran
+-- the line that tells the cause of a call on sites of these names; nothing where its work was done
 abbrev pub line_of : List (List ℕ) → Cause → List ℕ
 line_of names Ran = []
+line_of names Checked = []
 line_of names (Usage word) = usage_line word
 line_of names (SourceTooLong source) = too_long_line (slice_index_or names source [])
 line_of names (Refused source fault) = refused_line (slice_index_or names source []) fault
@@ -35,6 +41,7 @@ line_of names NoMemory = no_memory_line
 -- the call ended before it wrote
 abbrev pub IsRefusal : Cause → Type 0
 IsRefusal Ran = ⊥
+IsRefusal Checked = ⊥
 IsRefusal (Usage word) = ⊤
 IsRefusal (SourceTooLong source) = ⊤
 IsRefusal (Refused source fault) = ⊤
@@ -46,6 +53,7 @@ IsRefusal NoMemory = ⊤
 -- the words were refused with this number, or were in form, as P and Q say
 abbrev pub MatchUsage : Cause → (ℕ → Type 0) → Type 0 → Type 0
 MatchUsage Ran P Q = Q
+MatchUsage Checked P Q = Q
 MatchUsage (Usage word) P Q = P word
 MatchUsage (SourceTooLong source) P Q = Q
 MatchUsage (Refused source fault) P Q = Q
@@ -57,6 +65,7 @@ MatchUsage NoMemory P Q = Q
 -- P holds of the source that is too long
 abbrev pub IfTooLong : Cause → (ℕ → Type 0) → Type 0
 IfTooLong Ran P = ⊤
+IfTooLong Checked P = ⊤
 IfTooLong (Usage word) P = ⊤
 IfTooLong (SourceTooLong source) P = P source
 IfTooLong (Refused source fault) P = ⊤
@@ -68,6 +77,7 @@ IfTooLong NoMemory P = ⊤
 -- P holds of the source that is refused, and of its fault
 abbrev pub IfRefused : Cause → (ℕ → SourceFault → Type 0) → Type 0
 IfRefused Ran P = ⊤
+IfRefused Checked P = ⊤
 IfRefused (Usage word) P = ⊤
 IfRefused (SourceTooLong source) P = ⊤
 IfRefused (Refused source fault) P = P source fault
@@ -79,6 +89,7 @@ IfRefused NoMemory P = ⊤
 -- P holds of the source that doesn't run yet, and of the token
 abbrev pub IfNotYet : Cause → (ℕ → ℕ → Type 0) → Type 0
 IfNotYet Ran P = ⊤
+IfNotYet Checked P = ⊤
 IfNotYet (Usage word) P = ⊤
 IfNotYet (SourceTooLong source) P = ⊤
 IfNotYet (Refused source fault) P = ⊤
@@ -90,6 +101,7 @@ IfNotYet NoMemory P = ⊤
 -- P holds of the file that wasn't read
 abbrev pub IfReadFault : Cause → (ℕ → Type 0) → Type 0
 IfReadFault Ran P = ⊤
+IfReadFault Checked P = ⊤
 IfReadFault (Usage word) P = ⊤
 IfReadFault (SourceTooLong source) P = ⊤
 IfReadFault (Refused source fault) P = ⊤
@@ -101,6 +113,7 @@ IfReadFault NoMemory P = ⊤
 -- P holds where writing failed
 abbrev pub OnWriteFault : Cause → Type 0 → Type 0
 OnWriteFault Ran P = ⊤
+OnWriteFault Checked P = ⊤
 OnWriteFault (Usage word) P = ⊤
 OnWriteFault (SourceTooLong source) P = ⊤
 OnWriteFault (Refused source fault) P = ⊤
@@ -112,6 +125,7 @@ OnWriteFault NoMemory P = ⊤
 -- P holds where it ran
 abbrev pub OnRan : Cause → Type 0 → Type 0
 OnRan Ran P = P
+OnRan Checked P = ⊤
 OnRan (Usage word) P = ⊤
 OnRan (SourceTooLong source) P = ⊤
 OnRan (Refused source fault) P = ⊤
@@ -123,6 +137,7 @@ OnRan NoMemory P = ⊤
 -- the end of a run of words in form
 abbrev pub IsRunEnd : Cause → Type 0
 IsRunEnd Ran = ⊤
+IsRunEnd Checked = ⊥
 IsRunEnd (Usage word) = ⊥
 IsRunEnd (SourceTooLong source) = ⊤
 IsRunEnd (Refused source fault) = ⊤
@@ -134,6 +149,7 @@ IsRunEnd NoMemory = ⊤
 -- a refusal of a run of words in form
 abbrev pub IsRunRefusal : Cause → Type 0
 IsRunRefusal Ran = ⊥
+IsRunRefusal Checked = ⊥
 IsRunRefusal (Usage word) = ⊥
 IsRunRefusal (SourceTooLong source) = ⊤
 IsRunRefusal (Refused source fault) = ⊤
@@ -142,9 +158,70 @@ IsRunRefusal (ReadFault file) = ⊤
 IsRunRefusal WriteFault = ⊥
 IsRunRefusal NoMemory = ⊤
 
+-- P holds where each source is accepted
+abbrev pub OnChecked : Cause → Type 0 → Type 0
+OnChecked Ran P = ⊤
+OnChecked Checked P = P
+OnChecked (Usage word) P = ⊤
+OnChecked (SourceTooLong source) P = ⊤
+OnChecked (Refused source fault) P = ⊤
+OnChecked (NotYet source token) P = ⊤
+OnChecked (ReadFault file) P = ⊤
+OnChecked WriteFault P = ⊤
+OnChecked NoMemory P = ⊤
+
+-- the end of a check
+abbrev pub IsCheckEnd : Cause → Type 0
+IsCheckEnd Ran = ⊥
+IsCheckEnd Checked = ⊤
+IsCheckEnd (Usage word) = ⊥
+IsCheckEnd (SourceTooLong source) = ⊤
+IsCheckEnd (Refused source fault) = ⊤
+IsCheckEnd (NotYet source token) = ⊥
+IsCheckEnd (ReadFault file) = ⊤
+IsCheckEnd WriteFault = ⊤
+IsCheckEnd NoMemory = ⊤
+
+-- a refusal of a check
+abbrev pub IsCheckRefusal : Cause → Type 0
+IsCheckRefusal Ran = ⊥
+IsCheckRefusal Checked = ⊥
+IsCheckRefusal (Usage word) = ⊥
+IsCheckRefusal (SourceTooLong source) = ⊤
+IsCheckRefusal (Refused source fault) = ⊤
+IsCheckRefusal (NotYet source token) = ⊥
+IsCheckRefusal (ReadFault file) = ⊤
+IsCheckRefusal WriteFault = ⊥
+IsCheckRefusal NoMemory = ⊤
+
+-- each source was accepted, and that was written whole or not
+abbrev pub IsCheckFinish : Cause → Type 0
+IsCheckFinish Ran = ⊥
+IsCheckFinish Checked = ⊤
+IsCheckFinish (Usage word) = ⊥
+IsCheckFinish (SourceTooLong source) = ⊥
+IsCheckFinish (Refused source fault) = ⊥
+IsCheckFinish (NotYet source token) = ⊥
+IsCheckFinish (ReadFault file) = ⊥
+IsCheckFinish WriteFault = ⊤
+IsCheckFinish NoMemory = ⊥
+
+-- each source is accepted, or no memory was left
+abbrev pub IsCheckedOrNoMemory : Cause → Type 0
+IsCheckedOrNoMemory Ran = ⊥
+IsCheckedOrNoMemory Checked = ⊤
+IsCheckedOrNoMemory (Usage word) = ⊥
+IsCheckedOrNoMemory (SourceTooLong source) = ⊥
+IsCheckedOrNoMemory (Refused source fault) = ⊥
+IsCheckedOrNoMemory (NotYet source token) = ⊥
+IsCheckedOrNoMemory (ReadFault file) = ⊥
+IsCheckedOrNoMemory WriteFault = ⊥
+IsCheckedOrNoMemory NoMemory = ⊤
+
 -- it ran, or no memory was left
 abbrev pub IsRanOrNoMemory : Cause → Type 0
 IsRanOrNoMemory Ran = ⊤
+IsRanOrNoMemory Checked = ⊥
 IsRanOrNoMemory (Usage word) = ⊥
 IsRanOrNoMemory (SourceTooLong source) = ⊥
 IsRanOrNoMemory (Refused source fault) = ⊥
@@ -152,6 +229,18 @@ IsRanOrNoMemory (NotYet source token) = ⊥
 IsRanOrNoMemory (ReadFault file) = ⊥
 IsRanOrNoMemory WriteFault = ⊥
 IsRanOrNoMemory NoMemory = ⊤
+
+-- it doesn't run yet, or no memory was left
+abbrev pub IsNotYetOrNoMemory : Cause → Type 0
+IsNotYetOrNoMemory Ran = ⊥
+IsNotYetOrNoMemory Checked = ⊥
+IsNotYetOrNoMemory (Usage word) = ⊥
+IsNotYetOrNoMemory (SourceTooLong source) = ⊥
+IsNotYetOrNoMemory (Refused source fault) = ⊥
+IsNotYetOrNoMemory (NotYet source token) = ⊤
+IsNotYetOrNoMemory (ReadFault file) = ⊥
+IsNotYetOrNoMemory WriteFault = ⊥
+IsNotYetOrNoMemory NoMemory = ⊤
 
 -- a file wasn't read because of a fault, or because it is too long, as P and Q say; for want of memory anything may hold
 abbrev pub MatchUnread : Unread → Type 0 → Type 0 → Type 0
@@ -162,6 +251,7 @@ MatchUnread unread.NoMemory P Q = ⊤
 -- it ran, and its output was written whole or not
 abbrev pub IsRunFinish : Cause → Type 0
 IsRunFinish Ran = ⊤
+IsRunFinish Checked = ⊥
 IsRunFinish (Usage word) = ⊥
 IsRunFinish (SourceTooLong source) = ⊥
 IsRunFinish (Refused source fault) = ⊥
@@ -190,3 +280,17 @@ abbrev pub unrun_cause : Unrun → Cause
 unrun_cause (unrun.Fault fault) = Refused 0 fault
 unrun_cause (unrun.NotYet token) = NotYet 0 token
 unrun_cause unrun.NoMemory = NoMemory
+
+-- P holds of the fault of a source that isn't accepted
+abbrev pub IfFault : Unaccepted → (SourceFault → Type 0) → Type 0
+IfFault (unaccepted.Fault fault) P = P fault
+IfFault unaccepted.NoMemory P = ⊤
+
+-- P holds of the source that is refused, and of its fault
+abbrev pub IfRefusal : Refusal → (ℕ → SourceFault → Type 0) → Type 0
+IfRefusal (refusal.Fault source fault) P = P source fault
+IfRefusal refusal.NoMemory P = ⊤
+
+abbrev pub refusal_cause : Refusal → Cause
+refusal_cause (refusal.Fault source fault) = Refused source fault
+refusal_cause refusal.NoMemory = NoMemory

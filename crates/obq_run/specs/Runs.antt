@@ -1,4 +1,4 @@
--- What a run of sources is.
+-- What a run and a check of sources are.
 use Rattle.std.specs.Prelude.{List, None, Option, Some, [], length, map, slice_get, ℕ, ◌≡◌, ◌≤◌, ◌∷◌}
 use Rattle.std.specs.List.{zip}
 use Rattle.obq_base.specs.declared.acts.Report.{Report}
@@ -11,11 +11,11 @@ use Rattle.obq_model.specs.Journal.{Journal}
 use Rattle.obq_model.specs.Output.{run_text}
 use Rattle.obq_model.specs.PutTexts.{IsPutTexts, StopsAt}
 use Rattle.obq_model.specs.Replay.{IsOver, TakeTurns, output, replay, report, status}
-use Rattle.obq_model.specs.Sources.{AreAccepted, IsFirstRefused}
+use Rattle.obq_model.specs.Sources.{AreAccepted, IsAccepted, IsFirstRefused}
 use Rattle.obq_model.specs.Tokens.{IsReading}
 use Rattle.obq_run.specs.declared.ends.Cause.{Cause}
 use Rattle.obq_run.specs.declared.history.Ran.{Ran}
-use Rattle.obq_run.specs.Ends.{IsRanOrNoMemory}
+use Rattle.obq_run.specs.Ends.{IsCheckedOrNoMemory, IsNotYetOrNoMemory, IsRanOrNoMemory}
 use Rattle.obq_run.specs.Known.{AreHeld, AreTold}
 
 -- one thread, which has ended by a value
@@ -52,11 +52,17 @@ pub record IsRunOf (holds : List ℕ → Option (List ℕ)) (limit : ℕ) (names
   pub output_text : text ≡ run_text (zip names outputs) threads
   pub report_status : ended_status ≡ status threads
 
+-- each source has tokens that only write texts
+abbrev pub OnlyWrite : List (List ℕ) → Type 0
+OnlyWrite [] = Unit {0}
+OnlyWrite (source ∷ sources) = ((tokens : List Token) × (texts : List (List ℕ)) × IsReading source tokens × IsPutTexts tokens texts) × OnlyWrite sources
+
 -- Sources within the limit, which are what the paths hold where they tell that, run with this journal, and the writer of the first has these
 -- bytes.
 pub record RunsOf (holds : List ℕ → Option (List ℕ)) (limit : ℕ) (paths : List (List ℕ)) (turns : ℕ) (ran : Ran) : Type 0 where
   pub sources : List (List ℕ)
   pub held : AreHeld holds limit paths sources
+  pub form : OnlyWrite sources
   pub end : IsEndOf sources turns ran.journal (ran.bytes.items ∷ []) one_ended
 
 -- Of sources within the limit, which are what the paths hold where they tell that, this one is the first that has a fault, and this is its first.
@@ -65,10 +71,18 @@ pub record IsRefusalOf (holds : List ℕ → Option (List ℕ)) (limit : ℕ) (p
   pub held : AreHeld holds limit paths sources
   pub refused : IsFirstRefused sources k fault
 
--- the source has tokens, and this of them is the first that differs from those of a source that runs
+-- Sources within the limit, which are what the paths hold where they tell that, are accepted.
+pub record IsCheckOf (holds : List ℕ → Option (List ℕ)) (limit : ℕ) (paths : List (List ℕ)) : Type 0 where
+  pub sources : List (List ℕ)
+  pub held : AreHeld holds limit paths sources
+  pub trees : List Block
+  pub accepted : AreAccepted sources trees
+
+-- the source is accepted, and this of its tokens is the first that differs from those of a source that runs
 pub record IsNotYet (source : List ℕ) (k : ℕ) : Type 0 where
   pub tokens : List Token
-  pub reading : IsReading source tokens
+  pub tree : Block
+  pub accepted : IsAccepted source tokens tree
   pub stops : StopsAt tokens k
 
 -- One source within the limit, which is what the path holds where it tells that, is not run yet because of this token.
@@ -92,3 +106,15 @@ abbrev pub RunCompletes : (List ℕ → Option (List ℕ)) → ℕ → List (Lis
 RunCompletes holds limit paths Rises output_rose cause =
     (source : List ℕ) (tokens : List Token) (texts : List (List ℕ)) → AreTold holds paths (source ∷ []) → (length source ≤ limit) → IsReading source tokens
     → IsPutTexts tokens texts → NoneRose Rises paths → ¬ output_rose → IsRanOrNoMemory cause
+
+-- Where the path holds a source within the limit that is accepted and does more than write texts, and no count of faults rose, it doesn't run yet, or
+-- there was no memory.
+abbrev pub NotYetCompletes : (List ℕ → Option (List ℕ)) → ℕ → List (List ℕ) → (List ℕ → Type 0) → Type 0 → Cause → Type 0
+NotYetCompletes holds limit paths Rises output_rose cause =
+    (source : List ℕ) (k : ℕ) → AreTold holds paths (source ∷ []) → (length source ≤ limit) → IsNotYet source k → NoneRose Rises paths → ¬ output_rose → IsNotYetOrNoMemory cause
+
+-- Where the paths hold sources within the limit that are accepted, and no count of faults rose, the cause says so, or there was no memory.
+abbrev pub CheckCompletes : (List ℕ → Option (List ℕ)) → ℕ → List (List ℕ) → (List ℕ → Type 0) → Type 0 → Cause → Type 0
+CheckCompletes holds limit paths Rises output_rose cause =
+    (sources : List (List ℕ)) (trees : List Block) → AreTold holds paths sources → AllWithin limit sources → AreAccepted sources trees → NoneRose Rises paths → ¬ output_rose
+    → IsCheckedOrNoMemory cause

@@ -11,12 +11,14 @@ use obq_base::SourceFault;
 #[derive(Debug, PartialEq, Drop)]
 pub enum Cause {
     Ran,
+    /// Each source is accepted.
+    Checked,
     /// The first word that can't stand in its place; a missing word is the number of words.
     Usage { word: u32 },
     SourceTooLong { source: u16 },
     /// The first fault of the first source that has one.
     Refused { source: u16, fault: SourceFault },
-    /// The source has tokens, and of a kind that doesn't run yet; `token` is the first that differs
+    /// The source is accepted, and of a kind that doesn't run yet; `token` is the first that differs
     /// from those of a source that runs.
     NotYet { source: u16, token: u32 },
     ReadFault { file: u16 },
@@ -39,6 +41,7 @@ pub fn status_for(cause: &Cause) -> u8
 {
     match cause {
         Cause::Ran => 0,
+        Cause::Checked => 0,
         Cause::Usage { word: _ } => 2,
         Cause::SourceTooLong { source: _ } => 7,
         Cause::Refused {

@@ -8,7 +8,7 @@ ghost use Rattle.obq_model.specs.Output.{run_text};
 ghost use Rattle.obq_model.specs.Sources.{IsFault};
 ghost use Rattle.obq_run.specs.Ends.{IfNotYet, IfReadFault, IfRefused, IfTooLong, IfUnrun, IsRefusal, IsRunEnd, IsRunFinish, IsRunRefusal, OnRan, OnWriteFault, line_of, status_of, stop_cause, unrun_cause};
 ghost use Rattle.obq_run.specs.Known.{AreHeld, GetsPrefix, WhereTold};
-ghost use Rattle.obq_run.specs.Runs.{IsEndOf, IsNotYet, IsNotYetOf, IsRefusalOf, IsRunOf, RunCompletes, RunsOf, one_ended};
+ghost use Rattle.obq_run.specs.Runs.{IsEndOf, IsNotYet, IsNotYetOf, IsRefusalOf, IsRunOf, NotYetCompletes, OnlyWrite, RunCompletes, RunsOf, one_ended};
 ghost use Rattle.obq_run.specs.Words.{names_of, paths_of};
 
 use crate::ends::{Cause, End, status_for};
@@ -16,11 +16,11 @@ use crate::history::{Ran, run_texts};
 use crate::journals::Journal;
 use crate::put_texts::{Unreadable, read_texts};
 use crate::reading::{SOURCE_LIMIT, Stopped, Unread, read_sources};
+use crate::sources::{Unaccepted, accepted_tokens};
 use crate::texts::{write_cause, write_run};
 use crate::words::SiteWord;
 use obq_base::{Report, SourceFault};
 use obq_io::{Files, Sink};
-use obq_lex::{LexRefused, lex};
 use std::alloc::Global;
 
 /// How many turns a thread has.
@@ -38,14 +38,13 @@ pub enum Unrun {
 fn run_source(alloc: Global, source: &[u8]) -> Result<Ran, Unrun>
     requires { length source.now ≤ SOURCE_LIMIT }
     ensures ran { IfOk result (λ r. IsEndOf (source.now ∷ []) TURNS r.journal (r.bytes.items ∷ []) one_ended) }
+    ensures form { IfOk result (λ r. OnlyWrite (source.now ∷ [])) }
     ensures unrun { IfErr result (λ why. IfUnrun why (IsFault source.now) (IsNotYet source.now)) }
 {
-    let tokens = match lex(alloc, source) {
+    let tokens = match accepted_tokens(alloc, source) {
         Ok(tokens) => tokens,
-        Err(LexRefused::Fault { kind, place }) => {
-            return Err(Unrun::Fault(SourceFault::Lexical { kind, place }));
-        }
-        Err(LexRefused::NoMemory) => return Err(Unrun::NoMemory),
+        Err(Unaccepted::Fault(fault)) => return Err(Unrun::Fault(fault)),
+        Err(Unaccepted::NoMemory) => return Err(Unrun::NoMemory),
     };
     let texts = match read_texts(alloc, &tokens) {
         Ok(texts) => texts,
@@ -70,7 +69,7 @@ fn cause_of_unrun(unrun: Unrun) -> Cause
 }
 
 /// The cause where a file wasn't read.
-fn cause_of_stop(stopped: Stopped) -> Cause
+pub fn cause_of_stop(stopped: Stopped) -> Cause
     ensures { result ≡ stop_cause stopped }
 {
     match stopped.why {
@@ -180,6 +179,7 @@ pub fn run_sites<F: Files, O: Sink, E: Sink>(
         × GetsPrefix (O.written out.old) (O.written out.new) text) }
     ensures status { result.status ≡ status_of result.cause }
     ensures completes { RunCompletes (F.holds files.old) SOURCE_LIMIT (paths_of sites.now) (λ p. Rose (F.faults files.old p) (F.faults files.new p)) (Rose (O.faults out.old) (O.faults out.new)) result.cause }
+    ensures completes_not_yet { NotYetCompletes (F.holds files.old) SOURCE_LIMIT (paths_of sites.now) (λ p. Rose (F.faults files.old p) (F.faults files.new p)) (Rose (O.faults out.old) (O.faults out.new)) result.cause }
 
     // A refusal writes nothing but its line.
     ensures unwritten { IsRefusal result.cause → out.new ≡ out.old }

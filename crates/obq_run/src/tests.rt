@@ -1,283 +1,410 @@
-use super::*;
+use crate::calls::{file_list, outcome_of, word_list};
+use crate::{Cause, obliq};
 use obq_base::{Act, ActKind, Entry, LexKind, SourceFault};
-use obq_io::{MemFiles, MemSink, PlainGate, SureFiles, SureSink};
-use std::alloc::{AllocError, Global};
+use obq_io::{MemSink, PlainGate, SureFiles, SureSink};
+use std::alloc::Global;
 use std::sync::Wait;
 use std::test::Fail;
 use std::thread::Threads;
 
-fn word_list(alloc: Global, words: &[&str]) -> Result<Vec<String>, AllocError> {
-    let mut list = Vec::new(alloc);
-    for word in words {
-        list.push(String::from_str(alloc, word)?)?;
-    }
-    Ok(list)
-}
+const RUN: &str = "run A=a";
 
-/// One file, `a`, with these bytes.
-fn file_list(alloc: Global, bytes: &[u8]) -> Result<Vec<(String, Vec<u8>)>, AllocError> {
-    Ok(vec![in alloc; (String::from_str(alloc, "a")?, bytes.to_vec(alloc)?)]?)
-}
+const CHECK: &str = "check A=a";
 
-/// A call on one file: its words, source, failing calls and room for output; and what it gives.
-#[derive(Drop)]
-struct Case<'a> {
-    words: &'a [&'a str],
-    source: &'a [u8],
-    fails: &'a [u64],
-    room: u32,
-    cause: Cause,
-    status: u8,
-    out: &'a str,
-    err: &'a str,
-}
-
-const RUN: &[&str] = &["run", "A=a"];
-
-const HI: &[u8] = b"wr_putText(stdout, \"hi\");";
+const HI: &str = "wr_putText(stdout, \"hi\");";
 
 const HI_OUT: &str = "== A 2 ==\nhi\nthreads ended 1 raised 0 waiting 0 spent 0\n";
 
-const EMPTY_OUT: &str = "== A 0 ==\n\nthreads ended 1 raised 0 waiting 0 spent 0\n";
-
-/// A call on `HI` with words that can't stand.
-fn with_words<'a>(words: &'a [&'a str], word: u32, err: &'a str) -> Case<'a> {
-    Case {
-        words,
-        source: HI,
-        fails: &[],
-        room: 4096,
-        cause: Cause::Usage { word },
-        status: 2,
-        out: "",
-        err,
-    }
+/// A source, and the status and the texts of a call on it.
+struct Row {
+    source: &'static str,
+    status: u8,
+    out: &'static str,
+    err: &'static str,
 }
 
-/// A source that runs.
-fn runs<'a>(source: &'a [u8], out: &'a str) -> Case<'a> {
-    Case {
-        words: RUN,
-        source,
-        fails: &[],
-        room: 4096,
-        cause: Cause::Ran,
+const RUNS: [Row; 22] = [
+    Row {
+        source: "wr_putText(stdout, \"hi\");",
         status: 0,
-        out,
+        out: "== A 2 ==\nhi\nthreads ended 1 raised 0 waiting 0 spent 0\n",
         err: "",
-    }
-}
-
-/// A source that has tokens and doesn't run yet.
-fn stops<'a>(source: &'a [u8], token: u32, err: &'a str) -> Case<'a> {
-    Case {
-        words: RUN,
-        source,
-        fails: &[],
-        room: 4096,
-        cause: Cause::NotYet { source: 0, token },
+    },
+    Row {
+        source: "",
+        status: 0,
+        out: "== A 0 ==\n\nthreads ended 1 raised 0 waiting 0 spent 0\n",
+        err: "",
+    },
+    Row {
+        source: " \t\r\n",
+        status: 0,
+        out: "== A 0 ==\n\nthreads ended 1 raised 0 waiting 0 spent 0\n",
+        err: "",
+    },
+    Row {
+        source: "wr_putText(stdout,\"a\");\n(* and *) wr_putText ( stdout , \"b \" ) ;",
+        status: 0,
+        out: "== A 3 ==\nab \nthreads ended 1 raised 0 waiting 0 spent 0\n",
+        err: "",
+    },
+    Row {
+        source: "wr_putText(stdout, \"a\\nb\");",
+        status: 0,
+        out: "== A 3 ==\na\nb\nthreads ended 1 raised 0 waiting 0 spent 0\n",
+        err: "",
+    },
+    Row {
+        source: "wr_putText(stdout, \"\");",
+        status: 0,
+        out: "== A 0 ==\n\nthreads ended 1 raised 0 waiting 0 spent 0\n",
+        err: "",
+    },
+    Row {
+        source: "x",
         status: 9,
         out: "",
-        err,
-    }
-}
-
-/// A source that is refused for its first lexical fault.
-fn refuses<'a>(source: &'a [u8], kind: LexKind, place: u32, err: &'a str) -> Case<'a> {
-    Case {
-        words: RUN,
-        source,
-        fails: &[],
-        room: 4096,
-        cause: Cause::Refused {
-            source: 0,
-            fault: SourceFault::Lexical { kind, place },
-        },
+        err: "A: not yet at token 0\n",
+    },
+    Row {
+        source: "wr_putText(stdout, \"a\"); wr_putText(stdout, 1);",
+        status: 9,
+        out: "",
+        err: "A: not yet at token 11\n",
+    },
+    Row {
+        source: "wr_putText(stdout, \"a\")",
+        status: 9,
+        out: "",
+        err: "A: not yet at token 6\n",
+    },
+    Row {
+        source: "let x = 1; x",
+        status: 9,
+        out: "",
+        err: "A: not yet at token 0\n",
+    },
+    Row {
+        source: "wr_putText(stdout, \"a\") x",
         status: 3,
         out: "",
-        err,
-    }
-}
-
-/// `HI` where the k-th call on the files fails.
-fn fails<'a>(fails: &'a [u64]) -> Case<'a> {
-    Case {
-        words: RUN,
-        source: HI,
-        fails,
-        room: 4096,
-        cause: Cause::ReadFault { file: 0 },
-        status: 4,
+        err: "A: syntax at token 6\n",
+    },
+    Row {
+        source: "wr_putText(stdout, \"a\"); wr_putText(stdout",
+        status: 3,
         out: "",
-        err: "read fault at file 0\n",
-    }
+        err: "A: syntax at token 10\n",
+    },
+    Row {
+        source: "let a = ;",
+        status: 3,
+        out: "",
+        err: "A: syntax at token 3\n",
+    },
+    Row {
+        source: "let a =",
+        status: 3,
+        out: "",
+        err: "A: syntax at token 3\n",
+    },
+    Row {
+        source: "let a = 1.5;",
+        status: 3,
+        out: "",
+        err: "A: lexical Real at byte 8\n",
+    },
+    Row {
+        source: "let = 1.5",
+        status: 3,
+        out: "",
+        err: "A: lexical Real at byte 6\n",
+    },
+    Row {
+        source: "1 # 2 \"",
+        status: 3,
+        out: "",
+        err: "A: lexical Stray at byte 2\n",
+    },
+    Row {
+        source: "x \"a",
+        status: 3,
+        out: "",
+        err: "A: lexical OpenText at byte 2\n",
+    },
+    Row {
+        source: "\"a\n\"",
+        status: 3,
+        out: "",
+        err: "A: lexical OpenText at byte 0\n",
+    },
+    Row {
+        source: "(* x",
+        status: 3,
+        out: "",
+        err: "A: lexical OpenComment at byte 0\n",
+    },
+    Row {
+        source: "\"\\q\"",
+        status: 3,
+        out: "",
+        err: "A: lexical BadEscape at byte 1\n",
+    },
+    Row {
+        source: "99999999999999999999",
+        status: 3,
+        out: "",
+        err: "A: lexical IntRange at byte 0\n",
+    },
+];
+
+const CHECKS: [Row; 8] = [
+    Row {
+        source: "",
+        status: 0,
+        out: "A ok\n",
+        err: "",
+    },
+    Row {
+        source: "wr_putText(stdout, \"hi\");",
+        status: 0,
+        out: "A ok\n",
+        err: "",
+    },
+    Row {
+        source: "let x = 1; x",
+        status: 0,
+        out: "A ok\n",
+        err: "",
+    },
+    Row {
+        source: "let a = 1.5;",
+        status: 3,
+        out: "",
+        err: "A: lexical Real at byte 8\n",
+    },
+    Row {
+        source: "let = 1.5",
+        status: 3,
+        out: "",
+        err: "A: lexical Real at byte 6\n",
+    },
+    Row {
+        source: "let a = ;",
+        status: 3,
+        out: "",
+        err: "A: syntax at token 3\n",
+    },
+    Row {
+        source: "let a =",
+        status: 3,
+        out: "",
+        err: "A: syntax at token 3\n",
+    },
+    Row {
+        source: "wr_putText(stdout, \"a\") x",
+        status: 3,
+        out: "",
+        err: "A: syntax at token 6\n",
+    },
+];
+
+/// A command line that can't stand, and its first bad word.
+struct Line {
+    line: &'static str,
+    word: u32,
+    err: &'static str,
 }
 
-/// `HI` with room for so few bytes of output.
-fn writes<'a>(room: u32, out: &'a str) -> Case<'a> {
-    Case {
-        words: RUN,
-        source: HI,
-        fails: &[],
-        room,
-        cause: Cause::WriteFault,
-        status: 5,
-        out,
-        err: "write fault\n",
-    }
-}
-
-/// What a call gives.
-#[derive(Drop)]
-struct Outcome {
-    cause: Cause,
-    status: u8,
-    out: Vec<u8>,
-    err: Vec<u8>,
-}
-
-fn outcome_of<R: Threads + Wait + Sync>(
-    rt: &R,
-    alloc: Global,
-    case: &Case,
-) -> Result<Outcome, Fail> {
-    let words = word_list(alloc, case.words)?;
-    let mut files = MemFiles::new(file_list(alloc, case.source)?, case.fails.to_vec(alloc)?);
-    let mut out = MemSink::new(alloc, case.room)?;
-    let mut err = MemSink::new(alloc, 4096)?;
-    let end = obliq(
-        rt, alloc, &words, &mut files, &mut out, &mut err, &PlainGate,
-    );
-    Ok(Outcome {
-        cause: end.cause,
-        status: end.status,
-        out: out.bytes().to_vec(alloc)?,
-        err: err.bytes().to_vec(alloc)?,
-    })
-}
+const LINES: [Line; 15] = [
+    Line {
+        line: "",
+        word: 0,
+        err: "usage: word 0\n",
+    },
+    Line {
+        line: "replay A=a",
+        word: 0,
+        err: "usage: word 0\n",
+    },
+    Line {
+        line: "runs A=a",
+        word: 0,
+        err: "usage: word 0\n",
+    },
+    Line {
+        line: "run",
+        word: 1,
+        err: "usage: word 1\n",
+    },
+    Line {
+        line: "run A",
+        word: 1,
+        err: "usage: word 1\n",
+    },
+    Line {
+        line: "run A=",
+        word: 1,
+        err: "usage: word 1\n",
+    },
+    Line {
+        line: "run 1=a",
+        word: 1,
+        err: "usage: word 1\n",
+    },
+    Line {
+        line: "run A-b=a",
+        word: 1,
+        err: "usage: word 1\n",
+    },
+    Line {
+        line: "run A23456789012345678901234567890123=a",
+        word: 1,
+        err: "usage: word 1\n",
+    },
+    Line {
+        line: "run A=a B=a",
+        word: 2,
+        err: "usage: word 2\n",
+    },
+    Line {
+        line: "run --journal A=a",
+        word: 1,
+        err: "usage: word 1\n",
+    },
+    Line {
+        line: "check",
+        word: 1,
+        err: "usage: word 1\n",
+    },
+    Line {
+        line: "check A",
+        word: 1,
+        err: "usage: word 1\n",
+    },
+    Line {
+        line: "check =a",
+        word: 1,
+        err: "usage: word 1\n",
+    },
+    Line {
+        line: "check A=a B=a",
+        word: 2,
+        err: "usage: word 2\n",
+    },
+];
 
 #[test]
 fn a_table_of_runs(rt: HostRuntime) -> Result<(), Fail> {
-    let alloc = rt.alloc();
-    let cases = [
-        runs(HI, HI_OUT),
-        runs(b"", EMPTY_OUT),
-        runs(b" \t\r\n", EMPTY_OUT),
-        runs(
-            b"wr_putText(stdout,\"a\");\n(* and *) wr_putText ( stdout , \"b \" ) ;",
-            "== A 3 ==\nab \nthreads ended 1 raised 0 waiting 0 spent 0\n",
-        ),
-        runs(
-            b"wr_putText(stdout, \"a\\nb\");",
-            "== A 3 ==\na\nb\nthreads ended 1 raised 0 waiting 0 spent 0\n",
-        ),
-        runs(b"wr_putText(stdout, \"\");", EMPTY_OUT),
-        stops(b"x", 0, "A: not yet at token 0\n"),
-        stops(
-            b"wr_putText(stdout, \"a\"); wr_putText(stdout, 1);",
-            11,
-            "A: not yet at token 11\n",
-        ),
-        stops(b"wr_putText(stdout, \"a\")", 6, "A: not yet at token 6\n"),
-        stops(b"wr_putText(stdout, \"a\") x", 6, "A: not yet at token 6\n"),
-        stops(b"let x = 1; x", 0, "A: not yet at token 0\n"),
-        stops(
-            b"wr_putText(stdout, \"a\"); wr_putText(stdout",
-            10,
-            "A: not yet at token 10\n",
-        ),
-        with_words(&[], 0, "usage: word 0\n"),
-        with_words(&["check", "A=a"], 0, "usage: word 0\n"),
-        with_words(&["run"], 1, "usage: word 1\n"),
-        with_words(&["run", "A"], 1, "usage: word 1\n"),
-        with_words(&["run", "A="], 1, "usage: word 1\n"),
-        with_words(&["run", "1=a"], 1, "usage: word 1\n"),
-        with_words(&["run", "A-b=a"], 1, "usage: word 1\n"),
-        with_words(
-            &["run", "A23456789012345678901234567890123=a"],
-            1,
-            "usage: word 1\n",
-        ),
-        with_words(&["run", "A=a", "B=a"], 2, "usage: word 2\n"),
-        fails(&[1]),
-        fails(&[2]),
-        fails(&[3]),
-        writes(5, "== A "),
-        Case {
-            words: &["run", "A=b"],
-            source: HI,
-            fails: &[],
-            room: 4096,
-            cause: Cause::ReadFault { file: 0 },
-            status: 4,
-            out: "",
-            err: "read fault at file 0\n",
-        },
-    ];
-    for case in &cases {
-        let outcome = outcome_of(&rt, alloc, case)?;
-        assert_eq!(rt; outcome.out.as_slice(), case.out.as_bytes());
-        assert_eq!(rt; outcome.err.as_slice(), case.err.as_bytes());
-        assert_eq!(rt; outcome.cause, case.cause);
-        assert_eq!(rt; outcome.status, case.status);
+    for row in &RUNS {
+        let source = row.source;
+        let found = outcome_of(&rt, rt.alloc(), RUN, source.as_bytes(), &[], 4096)?;
+        assert_eq!(rt; found.err.as_slice(), row.err.as_bytes(), "{source}");
+        assert_eq!(rt; found.out.as_slice(), row.out.as_bytes(), "{source}");
+        assert_eq!(rt; found.status, row.status, "{source}");
     }
     Ok(())
 }
 
 #[test]
-fn a_table_of_refusals(rt: HostRuntime) -> Result<(), Fail> {
+fn a_table_of_checks(rt: HostRuntime) -> Result<(), Fail> {
+    for row in &CHECKS {
+        let source = row.source;
+        let found = outcome_of(&rt, rt.alloc(), CHECK, source.as_bytes(), &[], 4096)?;
+        assert_eq!(rt; found.err.as_slice(), row.err.as_bytes(), "{source}");
+        assert_eq!(rt; found.out.as_slice(), row.out.as_bytes(), "{source}");
+        assert_eq!(rt; found.status, row.status, "{source}");
+    }
+    Ok(())
+}
+
+#[test]
+fn a_table_of_words(rt: HostRuntime) -> Result<(), Fail> {
+    for row in &LINES {
+        let line = row.line;
+        let found = outcome_of(&rt, rt.alloc(), line, HI.as_bytes(), &[], 4096)?;
+        assert_eq!(rt; found.cause, Cause::Usage { word: row.word }, "{line}");
+        assert_eq!(rt; found.err.as_slice(), row.err.as_bytes(), "{line}");
+        assert_eq!(rt; found.status, 2, "{line}");
+        assert!(rt; found.out.is_empty(), "{line}");
+    }
+    Ok(())
+}
+
+#[test]
+fn files_that_fail(rt: HostRuntime) -> Result<(), Fail> {
+    for line in [RUN, CHECK] {
+        for k in [1, 2, 3] {
+            let found = outcome_of(&rt, rt.alloc(), line, HI.as_bytes(), &[k], 4096)?;
+            assert_eq!(rt; found.cause, Cause::ReadFault { file: 0 }, "{line} {k}");
+            assert_eq!(rt; found.err.as_slice(), "read fault at file 0\n".as_bytes());
+            assert_eq!(rt; found.status, 4);
+            assert!(rt; found.out.is_empty());
+        }
+    }
+    for line in ["run A=b", "check A=b"] {
+        let found = outcome_of(&rt, rt.alloc(), line, HI.as_bytes(), &[], 4096)?;
+        assert_eq!(rt; found.cause, Cause::ReadFault { file: 0 }, "{line}");
+        assert_eq!(rt; found.status, 4);
+    }
+    Ok(())
+}
+
+#[test]
+fn sinks_that_fail(rt: HostRuntime) -> Result<(), Fail> {
+    let found = outcome_of(&rt, rt.alloc(), RUN, HI.as_bytes(), &[], 5)?;
+    assert_eq!(rt; found.cause, Cause::WriteFault);
+    assert_eq!(rt; found.out.as_slice(), "== A ".as_bytes());
+    assert_eq!(rt; found.err.as_slice(), "write fault\n".as_bytes());
+    assert_eq!(rt; found.status, 5);
+    let found = outcome_of(&rt, rt.alloc(), CHECK, HI.as_bytes(), &[], 3)?;
+    assert_eq!(rt; found.cause, Cause::WriteFault);
+    assert_eq!(rt; found.out.as_slice(), "A o".as_bytes());
+    assert_eq!(rt; found.err.as_slice(), "write fault\n".as_bytes());
+    assert_eq!(rt; found.status, 5);
+    Ok(())
+}
+
+#[test]
+fn a_byte_that_is_not_ascii(rt: HostRuntime) -> Result<(), Fail> {
+    let found = outcome_of(&rt, rt.alloc(), RUN, b"x \xc3", &[], 4096)?;
+    assert_eq!(rt;
+        found.err.as_slice(),
+        "A: lexical NotAscii at byte 2\n".as_bytes()
+    );
+    let fault = SourceFault::Lexical {
+        kind: LexKind::NotAscii,
+        place: 2,
+    };
+    assert_eq!(rt; found.cause, Cause::Refused { source: 0, fault });
+    Ok(())
+}
+
+#[test]
+fn a_fault_of_the_tokens(rt: HostRuntime) -> Result<(), Fail> {
+    let found = outcome_of(&rt, rt.alloc(), CHECK, b"let a = ;", &[], 4096)?;
+    let fault = SourceFault::Syntax { token: 3 };
+    assert_eq!(rt; found.cause, Cause::Refused { source: 0, fault });
+    Ok(())
+}
+
+#[test]
+fn nested_parentheses(rt: HostRuntime) -> Result<(), Fail> {
     let alloc = rt.alloc();
-    let cases = [
-        refuses(
-            b"1 # 2 \"",
-            LexKind::Stray,
-            2,
-            "A: lexical Stray at byte 2\n",
-        ),
-        refuses(
-            b"x \"a",
-            LexKind::OpenText,
-            2,
-            "A: lexical OpenText at byte 2\n",
-        ),
-        refuses(
-            b"\"a\n\"",
-            LexKind::OpenText,
-            0,
-            "A: lexical OpenText at byte 0\n",
-        ),
-        refuses(
-            b"(* x",
-            LexKind::OpenComment,
-            0,
-            "A: lexical OpenComment at byte 0\n",
-        ),
-        refuses(
-            b"\"\\q\"",
-            LexKind::BadEscape,
-            1,
-            "A: lexical BadEscape at byte 1\n",
-        ),
-        refuses(
-            b"99999999999999999999",
-            LexKind::IntRange,
-            0,
-            "A: lexical IntRange at byte 0\n",
-        ),
-        refuses(b"1.5", LexKind::Real, 0, "A: lexical Real at byte 0\n"),
-        refuses(
-            b"x \xc3",
-            LexKind::NotAscii,
-            2,
-            "A: lexical NotAscii at byte 2\n",
-        ),
-    ];
-    for case in &cases {
-        let outcome = outcome_of(&rt, alloc, case)?;
-        assert_eq!(rt; outcome.out.as_slice(), case.out.as_bytes());
-        assert_eq!(rt; outcome.err.as_slice(), case.err.as_bytes());
-        assert_eq!(rt; outcome.cause, case.cause);
-        assert_eq!(rt; outcome.status, case.status);
+    for depth in [200, 201] {
+        let mut source = vec![in alloc; b'('; depth]?;
+        source.push(b'1')?;
+        source.extend_from_slice(&vec![in alloc; b')'; depth]?)?;
+        let found = outcome_of(&rt, alloc, CHECK, &source, &[], 4096)?;
+        if depth == 200 {
+            assert_eq!(rt; found.out.as_slice(), "A ok\n".as_bytes());
+            assert_eq!(rt; found.cause, Cause::Checked);
+        } else {
+            assert_eq!(rt;
+                found.err.as_slice(),
+                "A: lexical TooDeep at byte 200\n".as_bytes()
+            );
+        }
     }
     Ok(())
 }
@@ -294,7 +421,7 @@ fn entry(pure: u32, kind: ActKind) -> Option<Entry> {
 fn a_call_that_meets_no_fault(rt: HostRuntime) -> Result<(), Fail> {
     let alloc = rt.alloc();
     let words = word_list(alloc, RUN)?;
-    let mut files = SureFiles::new(file_list(alloc, HI)?);
+    let mut files = SureFiles::new(file_list(alloc, HI.as_bytes())?);
     let mut out = MemSink::new(alloc, 4096)?;
     let mut err = MemSink::new(alloc, 4096)?;
     let end = obliq(
@@ -315,9 +442,10 @@ fn a_call_that_meets_no_fault(rt: HostRuntime) -> Result<(), Fail> {
 fn size_of_call<R: Threads + Wait + Sync>(
     rt: &R,
     alloc: Global,
+    line: &str,
     source: &[u8],
 ) -> Result<(Cause, u64, u64), Fail> {
-    let words = word_list(alloc, RUN)?;
+    let words = word_list(alloc, line)?;
     let mut files = SureFiles::new(file_list(alloc, source)?);
     let mut out = SureSink::new();
     let mut err = SureSink::new();
@@ -328,24 +456,45 @@ fn size_of_call<R: Threads + Wait + Sync>(
 }
 
 #[test]
-fn sources_at_the_limits(rt: HostRuntime) -> Result<(), Fail> {
+fn the_longest_source(rt: HostRuntime) -> Result<(), Fail> {
     let alloc = rt.alloc();
-    // The largest source, of spaces and of statements.
     let mut spaces = vec![in alloc; b' '; 1_048_576]?;
-    assert_eq!(rt; size_of_call(&rt, alloc, &spaces)?, (Cause::Ran, 54, 0));
+    assert_eq!(rt;
+        size_of_call(&rt, alloc, RUN, &spaces)?,
+        (Cause::Ran, 54, 0)
+    );
+    assert_eq!(rt;
+        size_of_call(&rt, alloc, CHECK, &spaces)?,
+        (Cause::Checked, 5, 0)
+    );
     spaces.push(b' ')?;
     let too_long = Cause::SourceTooLong { source: 0 };
-    assert_eq!(rt; size_of_call(&rt, alloc, &spaces)?, (too_long, 0, 19));
+    assert_eq!(rt; size_of_call(&rt, alloc, RUN, &spaces)?, (too_long, 0, 19));
+    let too_long = Cause::SourceTooLong { source: 0 };
+    assert_eq!(rt;
+        size_of_call(&rt, alloc, CHECK, &spaces)?,
+        (too_long, 0, 19)
+    );
+    Ok(())
+}
+
+#[test]
+fn the_most_statements(rt: HostRuntime) -> Result<(), Fail> {
+    let alloc = rt.alloc();
     let mut statements = Vec::new(alloc);
     for _ in 0..45_590 {
         statements.extend_from_slice(b"wr_putText(stdout,\"a\");")?;
     }
     assert_eq!(rt;
-        size_of_call(&rt, alloc, &statements)?,
+        size_of_call(&rt, alloc, RUN, &statements)?,
         (Cause::Ran, 45_648, 0)
     );
+    Ok(())
+}
 
-    // The longest text, and one byte more.
+#[test]
+fn the_longest_text(rt: HostRuntime) -> Result<(), Fail> {
+    let alloc = rt.alloc();
     for length in [65_536, 65_537] {
         let mut text = Vec::from_slice(alloc, b"wr_putText(stdout,\"")?;
         text.extend_from_slice(&vec![in alloc; b'a'; length]?)?;
@@ -361,7 +510,7 @@ fn sources_at_the_limits(rt: HostRuntime) -> Result<(), Fail> {
                 },
             }
         };
-        assert_eq!(rt; size_of_call(&rt, alloc, &text)?.0, cause);
+        assert_eq!(rt; size_of_call(&rt, alloc, RUN, &text)?.0, cause);
     }
     Ok(())
 }

@@ -4,7 +4,7 @@
 ghost use Rattle.std.specs.Prelude.{◌≡◌, ◌∷◌, [], OnOk, slice_index_or};
 ghost use Rattle.std.specs.Io.KnownBytes.{Appends};
 ghost use Rattle.obq_io.specs.Causes.{HasCause};
-ghost use Rattle.obq_model.specs.Output.{kind_text, lexical_line, refused_line, report_line, run_text, site_text, syntax_line};
+ghost use Rattle.obq_model.specs.Output.{check_text, kind_text, lexical_line, ok_line, refused_line, report_line, run_text, site_text, syntax_line};
 ghost use Rattle.obq_run.specs.Ends.{line_of};
 ghost use Rattle.obq_run.specs.Known.{GetsPrefix};
 ghost use Rattle.obq_run.specs.Words.{names_of};
@@ -69,6 +69,27 @@ pub fn write_run<S: Sink>(
 {
     write_site(out, name, bytes)?;
     write_report(out, report)
+}
+
+/// Writes that the source of a site is accepted.
+fn write_ok<S: Sink>(out: &mut S, name: &[u8]) -> Result<(), Failed>
+    ensures whole { OnOk result (Appends (S.written out.old) (S.written out.new) (ok_line name.now)) }
+    ensures prefix { GetsPrefix (S.written out.old) (S.written out.new) (ok_line name.now) }
+    ensures cause { HasCause (S.faults out.old) (S.faults out.new) result }
+{
+    write_pieces(out, &[name, b" ok", b"\n"])
+}
+
+/// Writes that the sources of these sites are accepted.
+pub fn write_checked<S: Sink>(out: &mut S, sites: &[SiteWord]) -> Result<(), Failed>
+    ensures whole { OnOk result (Appends (S.written out.old) (S.written out.new) (check_text (names_of sites.now))) }
+    ensures prefix { GetsPrefix (S.written out.old) (S.written out.new) (check_text (names_of sites.now)) }
+    ensures cause { HasCause (S.faults out.old) (S.faults out.new) result }
+{
+    for site in sites {
+        write_ok(out, site.name.as_bytes())?;
+    }
+    Ok(())
 }
 
 /// The name of the site with this number; nothing where there is none.
@@ -136,7 +157,7 @@ fn write_refused<S: Sink>(err: &mut S, name: &[u8], fault: SourceFault) -> Resul
     }
 }
 
-/// Writes the line that tells the cause of a call on these sites; nothing where it ran.
+/// Writes the line that tells the cause of a call on these sites; nothing where its work was done.
 pub fn write_cause<S: Sink>(err: &mut S, sites: &[SiteWord], cause: &Cause) -> Result<(), Failed>
     ensures whole { OnOk result (Appends (S.written err.old) (S.written err.new) (line_of (names_of sites.now) cause.now)) }
     ensures prefix { GetsPrefix (S.written err.old) (S.written err.new) (line_of (names_of sites.now) cause.now) }
@@ -145,6 +166,7 @@ pub fn write_cause<S: Sink>(err: &mut S, sites: &[SiteWord], cause: &Cause) -> R
     let mut number = Buffer::new();
     match cause {
         Cause::Ran => Ok(()),
+        Cause::Checked => Ok(()),
         Cause::Usage { word } => {
             let word = number.format(*word).as_bytes();
             write_pieces(err, &[b"usage: word ", word, b"\n"])

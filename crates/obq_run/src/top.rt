@@ -1,25 +1,27 @@
 //! The call that the program makes.
 
-ghost use Rattle.std.specs.Prelude.{◌≡◌, ◌⊎◌, ◌<◌, [], None, Some, IsSomeAnd, List, length, slice_get, ℕ};
+ghost use Rattle.std.specs.Prelude.{◌≡◌, ◌⊎◌, ◌<◌, [], None, Some, IsSomeAnd, List, false, length, slice_get, true, ℕ};
 ghost use Rattle.std.specs.Io.KnownBytes.{Appends};
 ghost use Rattle.obq_io.specs.Causes.{Rose};
-ghost use Rattle.obq_model.specs.CommandLine.{bad_word};
-ghost use Rattle.obq_run.specs.Ends.{IfNotYet, IfReadFault, IfRefused, IfTooLong, IsRefusal, MatchUsage, OnRan, OnWriteFault, line_of, status_of};
+ghost use Rattle.obq_model.specs.CommandLine.{bad_word, is_checking};
+ghost use Rattle.obq_model.specs.Output.{check_text};
+ghost use Rattle.obq_run.specs.Ends.{IfNotYet, IfReadFault, IfRefused, IfTooLong, IsRefusal, MatchUsage, OnChecked, OnRan, OnWriteFault, line_of, status_of};
 ghost use Rattle.obq_run.specs.Known.{GetsPrefix, WhereTold};
-ghost use Rattle.obq_run.specs.Runs.{IsNotYetOf, IsRefusalOf, IsRunOf, RunCompletes};
+ghost use Rattle.obq_run.specs.Runs.{CheckCompletes, IsCheckOf, IsNotYetOf, IsRefusalOf, IsRunOf, NotYetCompletes, RunCompletes};
 ghost use Rattle.obq_run.specs.Words.{bytes_of, given_names, given_paths};
 
+use crate::check::check_sources;
 use crate::ends::{Cause, End};
 use crate::reading::SOURCE_LIMIT;
 use crate::run::{TURNS, refuse, run_sites};
-use crate::words::{WordsRefused, read_words};
+use crate::words::{Order, WordsRefused, read_words};
 use obq_io::{Files, Gate, Sink};
 use std::alloc::Global;
 use std::sync::Wait;
 use std::thread::Threads;
 
-/// Does what the words say: reads the source, runs it, and writes what it wrote to `out`, or tells on
-/// `err` why it didn't. `docs/LANGUAGE.md` has the words, the texts and the statuses.
+/// Does what the words say: reads the source, runs or examines it, and writes what it wrote, or that
+/// it is accepted, to `out`, or tells on `err` why it didn't. `docs/LANGUAGE.md` has the words, the texts and the statuses.
 pub fn obliq<R: Threads + Wait + Sync, F: Files, O: Sink, E: Sink, G: Gate>(
     _rt: &R,
     alloc: Global,
@@ -42,24 +44,42 @@ pub fn obliq<R: Threads + Wait + Sync, F: Files, O: Sink, E: Sink, G: Gate>(
     ensures ran { OnRan result.cause ((text : List ℕ)
         × IsRunOf (F.holds files.old) SOURCE_LIMIT (given_names (bytes_of words.now)) (given_paths (bytes_of words.now)) TURNS result.journal text result.status
         × Appends (O.written out.old) (O.written out.new) text) }
-    ensures part { OnWriteFault result.cause ((text : List ℕ)
+    ensures part { is_checking (bytes_of words.now) ≡ false → OnWriteFault result.cause ((text : List ℕ)
         × IsRunOf (F.holds files.old) SOURCE_LIMIT (given_names (bytes_of words.now)) (given_paths (bytes_of words.now)) TURNS result.journal text 0
         × GetsPrefix (O.written out.old) (O.written out.new) text) }
+
+    // What is checked is accepted, and that is what is written.
+    ensures checked { OnChecked result.cause (IsCheckOf (F.holds files.old) SOURCE_LIMIT (given_paths (bytes_of words.now))
+        × Appends (O.written out.old) (O.written out.new) (check_text (given_names (bytes_of words.now)))) }
+    ensures part_checked { is_checking (bytes_of words.now) ≡ true → OnWriteFault result.cause (IsCheckOf (F.holds files.old) SOURCE_LIMIT (given_paths (bytes_of words.now))
+        × GetsPrefix (O.written out.old) (O.written out.new) (check_text (given_names (bytes_of words.now)))) }
+
+    // Each command has its own ends, and comes to one of them where nothing fails.
+    ensures run_alone { OnRan result.cause (is_checking (bytes_of words.now) ≡ false) }
+    ensures not_yet_alone { IfNotYet result.cause (λ s k. is_checking (bytes_of words.now) ≡ false) }
+    ensures check_alone { OnChecked result.cause (is_checking (bytes_of words.now) ≡ true) }
     ensures status { result.status ≡ status_of result.cause }
-    ensures completes { bad_word (bytes_of words.now) ≡ None
+    ensures completes { bad_word (bytes_of words.now) ≡ None → is_checking (bytes_of words.now) ≡ false
         → RunCompletes (F.holds files.old) SOURCE_LIMIT (given_paths (bytes_of words.now)) (λ p. Rose (F.faults files.old p) (F.faults files.new p)) (Rose (O.faults out.old) (O.faults out.new)) result.cause }
+    ensures completes_not_yet { bad_word (bytes_of words.now) ≡ None → is_checking (bytes_of words.now) ≡ false
+        → NotYetCompletes (F.holds files.old) SOURCE_LIMIT (given_paths (bytes_of words.now)) (λ p. Rose (F.faults files.old p) (F.faults files.new p)) (Rose (O.faults out.old) (O.faults out.new)) result.cause }
+    ensures completes_check { bad_word (bytes_of words.now) ≡ None → is_checking (bytes_of words.now) ≡ true
+        → CheckCompletes (F.holds files.old) SOURCE_LIMIT (given_paths (bytes_of words.now)) (λ p. Rose (F.faults files.old p) (F.faults files.new p)) (Rose (O.faults out.old) (O.faults out.new)) result.cause }
 
     // A refusal writes nothing but its line.
     ensures unwritten { IsRefusal result.cause → out.new ≡ out.old }
     ensures no_journal { IsRefusal result.cause → result.journal.entries ≡ [] }
+    ensures no_journal_checked { is_checking (bytes_of words.now) ≡ true → result.journal.entries ≡ [] }
     ensures told { GetsPrefix (E.written err.old) (E.written err.new) (line_of (given_names (bytes_of words.now)) result.cause) }
     ensures told_whole { Appends (E.written err.old) (E.written err.new) (line_of (given_names (bytes_of words.now)) result.cause) ⊎ Rose (E.faults err.old) (E.faults err.new) }
     ensures quiet { OnRan result.cause (err.new ≡ err.old) }
+    ensures quiet_checked { OnChecked result.cause (err.new ≡ err.old) }
     ensures same { (n : List ℕ) → F.holds files.new n ≡ F.holds files.old n }
 {
     match read_words(alloc, words) {
         Err(WordsRefused::Usage { word }) => refuse(alloc, err, &[], Cause::Usage { word }),
         Err(WordsRefused::NoMemory) => refuse(alloc, err, &[], Cause::NoMemory),
-        Ok(sites) => run_sites(alloc, &sites, files, out, err),
+        Ok(Order::Run { sites }) => run_sites(alloc, &sites, files, out, err),
+        Ok(Order::Check { sites }) => check_sources(alloc, &sites, files, out, err),
     }
 }

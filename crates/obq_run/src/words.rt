@@ -1,9 +1,9 @@
 //! The words of the command line.
 
 ghost use Rattle.std.specs.Prelude.{◌≡◌, ◌≤◌, ◌∷◌, [], None, Some, IfOk, MatchOption, false, length, true};
-ghost use Rattle.obq_model.specs.CommandLine.{bad_word, is_command, is_name_byte, is_site_name, is_site_word, name_part, path_part};
+ghost use Rattle.obq_model.specs.CommandLine.{bad_word, is_checking, is_command, is_name_byte, is_site_name, is_site_word, name_part, path_part};
 ghost use Rattle.std.specs.List.{list_all};
-ghost use Rattle.obq_run.specs.Words.{Answers, bytes_of, names_of, paths_of};
+ghost use Rattle.obq_run.specs.Words.{Answers, AnswersSites, bytes_of, names_of, paths_of};
 
 use obq_base::{Name, NoMemory};
 use std::alloc::Global;
@@ -15,7 +15,14 @@ pub struct SiteWord {
     pub path: String,
 }
 
-/// Why a command line gives no sites.
+/// What a command line asks for.
+#[derive(Drop)]
+pub enum Order {
+    Run { sites: Vec<SiteWord> },
+    Check { sites: Vec<SiteWord> },
+}
+
+/// Why a command line gives no order.
 #[derive(Clone, Copy, Debug, PartialEq, Eq)]
 pub enum WordsRefused {
     /// The first word that can't stand in its place.
@@ -68,7 +75,17 @@ fn site_of(word: &str) -> Option<(&str, &str)>
 fn is_command(word: &str) -> bool
     ensures { result ≡ is_command word.now }
 {
-    word == "run"
+    word == "run" || word == "check"
+}
+
+/// Whether the command is `check`.
+fn is_checking(words: &[String]) -> bool
+    ensures { result ≡ is_checking (bytes_of words.now) }
+{
+    match words {
+        [] => false,
+        [command, ..] => command.as_str() == "check",
+    }
 }
 
 /// A list of the one site.
@@ -85,8 +102,8 @@ fn one_site(alloc: Global, name: &str, path: &str) -> Result<Vec<SiteWord>, NoMe
 }
 
 /// The sites that a command line gives, or the first word that can't stand in its place.
-pub fn read_words(alloc: Global, words: &[String]) -> Result<Vec<SiteWord>, WordsRefused>
-    ensures { Answers (bytes_of words.now) result }
+fn read_sites(alloc: Global, words: &[String]) -> Result<Vec<SiteWord>, WordsRefused>
+    ensures { AnswersSites (bytes_of words.now) result }
 {
     match words {
         [] => Err(WordsRefused::Usage { word: 0 }),
@@ -104,5 +121,20 @@ pub fn read_words(alloc: Global, words: &[String]) -> Result<Vec<SiteWord>, Word
                 Ok(sites)
             }
         },
+    }
+}
+
+/// What a command line asks for, or the first word that can't stand in its place.
+pub fn read_words(alloc: Global, words: &[String]) -> Result<Order, WordsRefused>
+    ensures { Answers (bytes_of words.now) result }
+{
+    match read_sites(alloc, words) {
+        Err(refused) => Err(refused),
+        Ok(sites) => {
+            if is_checking(words) {
+                return Ok(Order::Check { sites });
+            }
+            Ok(Order::Run { sites })
+        }
     }
 }

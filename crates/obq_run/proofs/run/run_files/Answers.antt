@@ -29,7 +29,7 @@ returns-in-Ok-run_source-clause-ran g c =
     let many : length items ≡ length c.args.sites.now = as_many holds 1048576 c.args.sites.now items c.in-Ok.ensures.held in
     let one : contents items ≡ c.index.result.now.items ∷ [] = only_one (λ s. s.items) items c.index.result.now (many ∙ c.requires) c.index.ensures in
     let is : contents items ≡ c.deref.result.now ∷ [] = one ∙ ap (λ s. s ∷ []) (sym c.deref.ensures.value) in
-    record { sources = contents items; held = c.in-Ok.ensures.held; end = rw is c.in-Ok-run_source.ensures.ran }
+    record { sources = contents items; held = c.in-Ok.ensures.held; form = rw is c.in-Ok-run_source.ensures.form; end = rw is c.in-Ok-run_source.ensures.ran }
 
 pub returns-clause-refused : goal.returns-clause-refused
 returns-clause-refused g c =

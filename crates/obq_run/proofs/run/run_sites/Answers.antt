@@ -1,8 +1,8 @@
 use Rattle.std.proofs.Common.{List, subst, sym, ℕ}
 use Rattle.obq_io.specs.Causes.{Rose}
-use Rattle.obq_run.specs.Runs.{RunCompletes}
+use Rattle.obq_run.specs.Runs.{NotYetCompletes, RunCompletes, RunsOf}
 use Rattle.obq_run.specs.Words.{paths_of}
-use Rattle.obq_run.proofs.Complete.{run_refused}
+use Rattle.obq_run.proofs.Complete.{not_yet_finished, not_yet_refused, run_refused}
 use Rattle.obq_run.proofs.run.run_sites.Goals as goal
 
 pub returns-in-Err-clause-completes : goal.returns-in-Err-clause-completes
@@ -15,3 +15,24 @@ returns-in-Err-clause-completes g c =
     let why = c.in-Err.ensures in
     let done : RunCompletes holds 1048576 paths Rises output c.in-Err.cause = run_refused holds 1048576 paths Rises output c.in-Err.cause why.only why.read_fault why.too_long why.refused why.not_yet in
     subst (λ cause. RunCompletes holds 1048576 paths Rises output cause) (sym c.refuse.ensures.cause) done
+
+pub returns-in-Err-clause-completes_not_yet : goal.returns-in-Err-clause-completes_not_yet
+returns-in-Err-clause-completes_not_yet g c =
+    let files = g.F.Files in
+    let holds = files.holds c.args.files.now in
+    let paths = paths_of c.args.sites.now in
+    let Rises : List ℕ → Type 0 = λ p. Rose (files.faults c.args.files.now p) (files.faults c.run_files.new.files p) in
+    let output : Type 0 = Rose (g.O.Sink.faults c.args.out.now) (g.O.Sink.faults c.args.out.now) in
+    let why = c.in-Err.ensures in
+    let done : NotYetCompletes holds 1048576 paths Rises output c.in-Err.cause = not_yet_refused holds 1048576 paths Rises output c.in-Err.cause why.only why.read_fault why.too_long why.refused in
+    subst (λ cause. NotYetCompletes holds 1048576 paths Rises output cause) (sym c.refuse.ensures.cause) done
+
+pub returns-in-Ok-clause-completes_not_yet : goal.returns-in-Ok-clause-completes_not_yet
+returns-in-Ok-clause-completes_not_yet g c =
+    let files = g.F.Files in
+    let holds = files.holds c.args.files.now in
+    let paths = paths_of c.args.sites.now in
+    let Rises : List ℕ → Type 0 = λ p. Rose (files.faults c.args.files.now p) (files.faults c.run_files.new.files p) in
+    let output : Type 0 = Rose (g.O.Sink.faults c.args.out.now) (g.O.Sink.faults c.finish.new.out) in
+    let runs : RunsOf holds 1048576 paths 100000 c.in-Ok.ran = c.in-Ok.ensures.ran in
+    not_yet_finished holds 1048576 paths runs.sources Rises output c.finish.result.cause runs.held runs.form

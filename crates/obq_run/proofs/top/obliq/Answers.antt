@@ -1,18 +1,56 @@
-use Rattle.std.proofs.Common.{List, subst, ℕ}
+use Rattle.std.proofs.Common.{List, Ok, subst, sym, ℕ}
 use Rattle.obq_io.specs.Causes.{Rose}
-use Rattle.obq_run.specs.Runs.{RunCompletes}
-use Rattle.obq_run.specs.Words.{AreSites, bytes_of, paths_of}
+use Rattle.obq_run.specs.declared.words.Order.TheVariants.{Check, Run}
+use Rattle.obq_run.specs.declared.words.SiteWord.{SiteWord}
+use Rattle.obq_run.specs.Runs.{CheckCompletes, NotYetCompletes, RunCompletes}
+use Rattle.obq_run.specs.Words.{Answers, AreInForm, AreSites, bytes_of, paths_of}
+use Rattle.obq_run.proofs.InForm.{in_form}
 use Rattle.obq_run.proofs.top.obliq.Goals as goal
 
-pub returns-in-Ok-clause-completes : goal.returns-in-Ok-clause-completes
-returns-in-Ok-clause-completes g c =
+pub check_sources-requires : goal.check_sources-requires
+check_sources-requires g c =
+    let words : List (List ℕ) = bytes_of c.args.words.now in
+    let given : Answers words (Ok (Check c.in-Ok-Check.sites)) = subst (λ order. Answers words (Ok order)) c.in-Ok-Check.field-0-is c.in-Ok-Check.ensures in
+    subst AreInForm (sym c.deref-in-Ok-Check.ensures.value) (in_form words c.in-Ok-Check.sites.items given.0 given.2)
+
+pub returns-in-Ok-Run-clause-completes : goal.returns-in-Ok-Run-clause-completes
+returns-in-Ok-Run-clause-completes g c =
     let files = g.F.Files in
     let words : List (List ℕ) = bytes_of c.args.words.now in
     let holds = files.holds c.args.files.now in
     let Rises : List ℕ → Type 0 = λ p. Rose (files.faults c.args.files.now p) (files.faults c.run_sites.new.files p) in
     let output : Type 0 = Rose (g.O.Sink.faults c.args.out.now) (g.O.Sink.faults c.run_sites.new.out) in
     let cause = c.run_sites.result.cause in
-    let sites : AreSites words c.in-Ok.sites.items = c.in-Ok.ensures.1 in
-    let at_sites : RunCompletes holds 1048576 (paths_of c.in-Ok.sites.items) Rises output cause =
-    subst (λ s. RunCompletes holds 1048576 (paths_of s) Rises output cause) c.deref.ensures.value c.run_sites.ensures.completes in
-    λ good. subst (λ paths. RunCompletes holds 1048576 paths Rises output cause) sites.paths at_sites
+    let given : Answers words (Ok (Run c.in-Ok-Run.sites)) = subst (λ order. Answers words (Ok order)) c.in-Ok-Run.field-0-is c.in-Ok-Run.ensures in
+    let sites : AreSites words c.in-Ok-Run.sites.items = given.2 in
+    let at_sites : RunCompletes holds 1048576 (paths_of c.in-Ok-Run.sites.items) Rises output cause =
+    subst (λ (s : List SiteWord). RunCompletes holds 1048576 (paths_of s) Rises output cause) c.deref.ensures.value c.run_sites.ensures.completes in
+    λ good run. subst (λ paths. RunCompletes holds 1048576 paths Rises output cause) sites.paths at_sites
+
+pub returns-in-Ok-Run-clause-completes_not_yet : goal.returns-in-Ok-Run-clause-completes_not_yet
+returns-in-Ok-Run-clause-completes_not_yet g c =
+    let files = g.F.Files in
+    let words : List (List ℕ) = bytes_of c.args.words.now in
+    let holds = files.holds c.args.files.now in
+    let Rises : List ℕ → Type 0 = λ p. Rose (files.faults c.args.files.now p) (files.faults c.run_sites.new.files p) in
+    let output : Type 0 = Rose (g.O.Sink.faults c.args.out.now) (g.O.Sink.faults c.run_sites.new.out) in
+    let cause = c.run_sites.result.cause in
+    let given : Answers words (Ok (Run c.in-Ok-Run.sites)) = subst (λ order. Answers words (Ok order)) c.in-Ok-Run.field-0-is c.in-Ok-Run.ensures in
+    let sites : AreSites words c.in-Ok-Run.sites.items = given.2 in
+    let at_sites : NotYetCompletes holds 1048576 (paths_of c.in-Ok-Run.sites.items) Rises output cause =
+    subst (λ (s : List SiteWord). NotYetCompletes holds 1048576 (paths_of s) Rises output cause) c.deref.ensures.value c.run_sites.ensures.completes_not_yet in
+    λ good run. subst (λ paths. NotYetCompletes holds 1048576 paths Rises output cause) sites.paths at_sites
+
+pub returns-in-Ok-Check-clause-completes_check : goal.returns-in-Ok-Check-clause-completes_check
+returns-in-Ok-Check-clause-completes_check g c =
+    let files = g.F.Files in
+    let words : List (List ℕ) = bytes_of c.args.words.now in
+    let holds = files.holds c.args.files.now in
+    let Rises : List ℕ → Type 0 = λ p. Rose (files.faults c.args.files.now p) (files.faults c.check_sources.new.files p) in
+    let output : Type 0 = Rose (g.O.Sink.faults c.args.out.now) (g.O.Sink.faults c.check_sources.new.out) in
+    let cause = c.check_sources.result.cause in
+    let given : Answers words (Ok (Check c.in-Ok-Check.sites)) = subst (λ order. Answers words (Ok order)) c.in-Ok-Check.field-0-is c.in-Ok-Check.ensures in
+    let sites : AreSites words c.in-Ok-Check.sites.items = given.2 in
+    let at_sites : CheckCompletes holds 1048576 (paths_of c.in-Ok-Check.sites.items) Rises output cause =
+    subst (λ (s : List SiteWord). CheckCompletes holds 1048576 (paths_of s) Rises output cause) c.deref-in-Ok-Check.ensures.value c.check_sources.ensures.completes in
+    λ good check. subst (λ paths. CheckCompletes holds 1048576 paths Rises output cause) sites.paths at_sites

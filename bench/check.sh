@@ -1,0 +1,68 @@
+#!/bin/sh
+# Times `check` over sources of 256 KiB and 1 MiB of four shapes: expressions in 200 parentheses, some 10,000 and 40,000
+# items, a chain of as many operators, and an array of as many items.
+#
+#   COMMAND="./obliq check" bench/check.sh
+#
+# runs `$COMMAND A=FILE` for each source, RUNS times (5 by default), takes off the time of an empty source, and prints
+# the best time of each size and how much more a byte costs in the longer one. About 1 says that no byte costs more there.
+set -eu
+
+command=${COMMAND:-"./obliq check"}
+runs=${RUNS:-5}
+folder=$(mktemp -d)
+trap 'rm -rf "$folder"' EXIT
+
+# make_source SHAPE BYTES FILE: as many pieces of 26 bytes as fit (of 402 for parentheses), filled up with spaces
+make_source() {
+    awk -v shape="$1" -v size="$2" 'BEGIN {
+        opening = shape == "chain" ? "x" : shape == "array" ? "[0" : ""
+        closing = shape == "array" ? "]" : ""
+        nest = "1"
+        for (level = 0; level < 200; level++) nest = "(" nest ")"
+        printf "%s", opening
+        so_far = length(opening) + length(closing)
+        for (k = 0; ; k++) {
+            if (shape == "nesting") text = nest ";"
+            if (shape == "items") text = sprintf("let n%07d = %010d;\n ", k, k)
+            if (shape == "chain") text = sprintf(" +\n name_%018d", k)
+            if (shape == "array") text = sprintf(",\n %023d", k)
+            if (so_far + length(text) > size) break
+            printf "%s", text
+            so_far += length(text)
+        }
+        printf "%s", closing
+        for (; so_far < size; so_far++) printf " "
+    }' > "$3"
+}
+
+# best_time FILE: the shortest of all runs, in nanoseconds; the source has to be accepted
+best_time() {
+    best=
+    run=0
+    while [ "$run" -lt "$runs" ]; do
+        begin=$(date +%s%N)
+        $command "A=$1" > "$folder/out" || exit 1
+        end=$(date +%s%N)
+        taken=$((end - begin))
+        if [ -z "$best" ] || [ "$taken" -lt "$best" ]; then best=$taken; fi
+        run=$((run + 1))
+    done
+    echo "$best"
+}
+
+: > "$folder/empty"
+idle=$(best_time "$folder/empty")
+echo "cores: $(nproc)"
+echo "an empty source: $idle ns"
+for shape in nesting items chain array; do
+    make_source "$shape" 262144 "$folder/small"
+    make_source "$shape" 1048576 "$folder/large"
+    small=$(best_time "$folder/small")
+    large=$(best_time "$folder/large")
+    awk -v shape="$shape" -v small="$small" -v large="$large" -v idle="$idle" 'BEGIN {
+        own_small = small - idle; if (own_small < 1) own_small = 1
+        own_large = large - idle; if (own_large < 1) own_large = 1
+        printf "%-8s 256 KiB %9.3f ms, 1 MiB %9.3f ms, a byte costs %.2f times as much\n", shape, own_small / 1e6, own_large / 1e6, own_large / own_small / 4
+    }'
+done

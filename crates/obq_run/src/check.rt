@@ -1,0 +1,116 @@
+//! The examination of sources that aren't run.
+
+ghost use Rattle.std.specs.Prelude.{◌≡◌, ◌⊎◌, ◌<◌, ◌≤◌, [], IfErr, IsSomeAnd, List, OnOk, length, slice_get, ℕ};
+ghost use Rattle.std.specs.Io.KnownBytes.{Appends};
+ghost use Rattle.obq_io.specs.Causes.{Rose};
+ghost use Rattle.obq_model.specs.Output.{check_text};
+ghost use Rattle.obq_run.specs.Ends.{IfReadFault, IfRefused, IfTooLong, IsCheckEnd, IsCheckFinish, IsCheckRefusal, IsRefusal, OnChecked, OnWriteFault, line_of, refusal_cause, status_of};
+ghost use Rattle.obq_run.specs.Known.{GetsPrefix, WhereTold};
+ghost use Rattle.obq_run.specs.Runs.{CheckCompletes, IsCheckOf, IsRefusalOf};
+ghost use Rattle.obq_run.specs.Words.{AreInForm, names_of, paths_of};
+
+use crate::ends::{Cause, End, status_for};
+use crate::journals::Journal;
+use crate::reading::{SOURCE_LIMIT, read_sources};
+use crate::run::{cause_of_stop, refuse};
+use crate::sources::{Refusal, examine};
+use crate::texts::{write_cause, write_checked};
+use crate::words::SiteWord;
+use obq_io::{Files, Sink};
+use std::alloc::Global;
+
+/// The cause where sources aren't accepted.
+fn cause_of_refusal(refusal: Refusal) -> Cause
+    ensures { result ≡ refusal_cause refusal }
+{
+    match refusal {
+        Refusal::Fault { source, fault } => Cause::Refused { source, fault },
+        Refusal::NoMemory => Cause::NoMemory,
+    }
+}
+
+/// Reads and examines the sources of the sites, without writing anything.
+fn check_files<F: Files>(alloc: Global, files: &mut F, sites: &[SiteWord]) -> Result<(), Cause>
+    requires { length sites.now ≤ 16 }
+    ensures same { (n : List ℕ) → F.holds files.new n ≡ F.holds files.old n }
+    ensures accepted { OnOk result (IsCheckOf (F.holds files.old) SOURCE_LIMIT (paths_of sites.now)) }
+    ensures only { IfErr result IsCheckRefusal }
+    ensures read_fault { IfErr result (λ cause. IfReadFault cause (λ file. IsSomeAnd (slice_get (paths_of sites.now) file) (λ p. Rose (F.faults files.old p) (F.faults files.new p)))) }
+    ensures too_long { IfErr result (λ cause. IfTooLong cause (λ s. IsSomeAnd (slice_get (paths_of sites.now) s) (λ p. WhereTold (F.holds files.old p) (λ xs. SOURCE_LIMIT < length xs)))) }
+    ensures refused { IfErr result (λ cause. IfRefused cause (IsRefusalOf (F.holds files.old) SOURCE_LIMIT (paths_of sites.now))) }
+{
+    let sources = match read_sources(alloc, files, sites) {
+        Ok(sources) => sources,
+        Err(stopped) => return Err(cause_of_stop(stopped)),
+    };
+    match examine(alloc, &sources) {
+        Ok(()) => Ok(()),
+        Err(refusal) => Err(cause_of_refusal(refusal)),
+    }
+}
+
+/// The end of a call whose sources are accepted: that is written.
+fn finish<O: Sink, E: Sink>(alloc: Global, out: &mut O, err: &mut E, sites: &[SiteWord]) -> End
+    ensures no_journal { result.journal.entries ≡ [] }
+    ensures whole { OnChecked result.cause (Appends (O.written out.old) (O.written out.new) (check_text (names_of sites.now))) }
+    ensures part { OnWriteFault result.cause (GetsPrefix (O.written out.old) (O.written out.new) (check_text (names_of sites.now))) }
+    ensures write_fault { OnWriteFault result.cause (Rose (O.faults out.old) (O.faults out.new)) }
+    ensures only { IsCheckFinish result.cause }
+    ensures status { result.status ≡ status_of result.cause }
+    ensures told { GetsPrefix (E.written err.old) (E.written err.new) (line_of (names_of sites.now) result.cause) }
+    ensures told_whole { Appends (E.written err.old) (E.written err.new) (line_of (names_of sites.now) result.cause) ⊎ Rose (E.faults err.old) (E.faults err.new) }
+    ensures quiet { OnChecked result.cause (err.new ≡ err.old) }
+{
+    let cause = match write_checked(out, sites) {
+        Ok(()) => Cause::Checked,
+        Err(_) => {
+            let _ = write_cause(err, sites, &Cause::WriteFault);
+            Cause::WriteFault
+        }
+    };
+    End {
+        status: status_for(&cause),
+        cause,
+        journal: Journal::new(alloc, 0),
+    }
+}
+
+/// Examines the sources of the sites in order, and writes to `out` that they are accepted, or tells
+/// on `err` why they aren't. It waits for nobody.
+pub fn check_sources<F: Files, O: Sink, E: Sink>(
+    alloc: Global,
+    sites: &[SiteWord],
+    files: &mut F,
+    out: &mut O,
+    err: &mut E,
+) -> End
+    requires { AreInForm sites.now }
+
+    // Each cause comes only where it may.
+    ensures only { IsCheckEnd result.cause }
+    ensures read_fault { IfReadFault result.cause (λ file. IsSomeAnd (slice_get (paths_of sites.now) file) (λ p. Rose (F.faults files.old p) (F.faults files.new p))) }
+    ensures too_long { IfTooLong result.cause (λ s. IsSomeAnd (slice_get (paths_of sites.now) s) (λ p. WhereTold (F.holds files.old p) (λ xs. SOURCE_LIMIT < length xs))) }
+    ensures refused { IfRefused result.cause (IsRefusalOf (F.holds files.old) SOURCE_LIMIT (paths_of sites.now)) }
+    ensures write_fault { OnWriteFault result.cause (Rose (O.faults out.old) (O.faults out.new)) }
+
+    // The sources derive trees, and that is what is written.
+    ensures checked { OnChecked result.cause (IsCheckOf (F.holds files.old) SOURCE_LIMIT (paths_of sites.now)
+        × Appends (O.written out.old) (O.written out.new) (check_text (names_of sites.now))) }
+    ensures part { OnWriteFault result.cause (IsCheckOf (F.holds files.old) SOURCE_LIMIT (paths_of sites.now)
+        × GetsPrefix (O.written out.old) (O.written out.new) (check_text (names_of sites.now))) }
+    ensures status { result.status ≡ status_of result.cause }
+    ensures completes { CheckCompletes (F.holds files.old) SOURCE_LIMIT (paths_of sites.now) (λ p. Rose (F.faults files.old p) (F.faults files.new p)) (Rose (O.faults out.old) (O.faults out.new)) result.cause }
+
+    // A refusal writes nothing but its line.
+    ensures unwritten { IsRefusal result.cause → out.new ≡ out.old }
+    ensures no_journal { result.journal.entries ≡ [] }
+    ensures told { GetsPrefix (E.written err.old) (E.written err.new) (line_of (names_of sites.now) result.cause) }
+    ensures told_whole { Appends (E.written err.old) (E.written err.new) (line_of (names_of sites.now) result.cause) ⊎ Rose (E.faults err.old) (E.faults err.new) }
+    ensures quiet { OnChecked result.cause (err.new ≡ err.old) }
+    ensures same { (n : List ℕ) → F.holds files.new n ≡ F.holds files.old n }
+{
+    match check_files(alloc, files, sites) {
+        Ok(()) => finish(alloc, out, err, sites),
+        Err(cause) => refuse(alloc, err, sites, cause),
+    }
+}
