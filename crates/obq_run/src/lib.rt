@@ -24,12 +24,4 @@ pub use top::obliq;
 pub use words::SiteWord;
 
 #[cfg(test)]
-mod calls;
-#[cfg(test)]
-mod several;
-#[cfg(test)]
-mod shapes;
-#[cfg(test)]
-mod tables;
-#[cfg(test)]
 mod tests;

@@ -1,4 +1,9 @@
-use crate::calls::{file_list, outcome_of, word_list};
+mod calls;
+mod several;
+mod shapes;
+mod tables;
+
+use crate::tests::calls::{file_list, outcome_of, word_list};
 use crate::{Cause, obliq};
 use obq_base::{Act, ActKind, Entry, LexKind, SourceFault};
 use obq_io::{MemSink, PlainGate, SureFiles, SureSink};

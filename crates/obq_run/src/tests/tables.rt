@@ -1,4 +1,4 @@
-use crate::calls::outcome_of;
+use crate::tests::calls::outcome_of;
 use std::test::Fail;
 
 /// Programs, one a line. Each production of the grammar, and each of its optional parts, is in one of
