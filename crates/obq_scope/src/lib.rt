@@ -1,0 +1,2 @@
+//! The resolver.
+#![tactic(auto)]
