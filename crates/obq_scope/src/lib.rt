@@ -1,2 +1,6 @@
-//! The resolver.
+//! The resolver: from the tree of a source to its code, or to its first unbound name.
 #![tactic(auto)]
+
+mod binders;
+mod outside;
+mod slots;
