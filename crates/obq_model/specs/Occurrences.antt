@@ -23,6 +23,11 @@ item_names (VarItem bs place) = bind_names bs
 item_names (LetRecItem bs place) = member_names bs
 item_names i = []
 
+-- the names that the items of a block bind in it
+abbrev pub block_names : ItemTrees → List Bytes
+block_names NoItems = []
+block_names (AnItem i is) = item_names i ++ block_names is
+
 -- the first of these suffixes is a call
 abbrev pub is_called : SuffixTrees → Bool
 is_called (ASuffix (ApplySuffix es place) ss) = true

@@ -2,5 +2,6 @@
 #![tactic(auto)]
 
 mod binders;
+mod collect;
 mod outside;
 mod slots;

@@ -1,0 +1,67 @@
+//! How many parts a tree has.
+
+ghost use Rattle.std.specs.Prelude.{◌≡◌, ◌++◌, IfOk};
+ghost use Rattle.obq_base.specs.View.{arm_trees, bind_trees, expr_trees, field_trees, item_trees, link_trees, suffix_trees};
+ghost use Rattle.obq_model.specs.Draft.{count_arms, count_binds, count_exprs, count_items, count_suffixes, field_names, operators_of};
+
+use crate::slots::counted;
+use obq_base::{Arm, Bind, Expr, Field, Item, Link, Name, NoMemory, Operator, Suffix};
+use sqlite_items::Items;
+use std::alloc::Global;
+
+#[tactic(auto, using(crate::proofs::Joined::items_count))]
+pub fn items_in(items: &[Item]) -> Result<u32, NoMemory>
+    ensures { IfOk result (λ n. n ≡ count_items (item_trees items.now)) }
+{
+    counted(items.len())
+}
+
+#[tactic(auto, using(crate::proofs::Joined::binds_count))]
+pub fn binds_in(binds: &[Bind]) -> Result<u32, NoMemory>
+    ensures { IfOk result (λ n. n ≡ count_binds (bind_trees binds.now)) }
+{
+    counted(binds.len())
+}
+
+#[tactic(auto, using(crate::proofs::Joined::exprs_count))]
+pub fn values_in(values: &[Expr]) -> Result<u32, NoMemory>
+    ensures { IfOk result (λ n. n ≡ count_exprs (expr_trees values.now)) }
+{
+    counted(values.len())
+}
+
+#[tactic(auto, using(crate::proofs::Joined::arms_count))]
+pub fn arms_in(arms: &[Arm]) -> Result<u32, NoMemory>
+    ensures { IfOk result (λ n. n ≡ count_arms (arm_trees arms.now)) }
+{
+    counted(arms.len())
+}
+
+#[tactic(auto, using(crate::proofs::Joined::suffixes_count))]
+pub fn suffixes_in(suffixes: &[Suffix]) -> Result<u32, NoMemory>
+    ensures { IfOk result (λ n. n ≡ count_suffixes (suffix_trees suffixes.now)) }
+{
+    counted(suffixes.len())
+}
+
+/// The operators of a chain.
+pub fn operators_in(alloc: Global, links: &[Link]) -> Result<Items<Operator>, NoMemory>
+    ensures { IfOk result (λ operators. operators ≡ operators_of (link_trees links.now)) }
+{
+    let mut operators = Items::new(alloc);
+    for link in links {
+        operators.push(link.operator)?;
+    }
+    Ok(operators)
+}
+
+/// The names of an object's fields.
+pub fn names_in(alloc: Global, fields: &[Field]) -> Result<Items<Name>, NoMemory>
+    ensures { IfOk result (λ names. names ≡ field_names (field_trees fields.now)) }
+{
+    let mut names = Items::new(alloc);
+    for field in fields {
+        names.push(field.name.copy(alloc)?)?;
+    }
+    Ok(names)
+}
