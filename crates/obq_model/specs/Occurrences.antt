@@ -128,7 +128,7 @@ abbrev mutual
   free_fields bound (AField x body place fs) = free_field bound body ++ free_fields bound fs
 
 -- the row of a built-in
-abbrev pub builtin_row : Bytes → Option ℕ
+unfoldable pub builtin_row : Bytes → Option ℕ
 builtin_row x = position (λ k. bytes_eq k x) builtins
 
 -- predefined are `stdout`, and a built-in's name where it is called

@@ -1,47 +1,58 @@
 //! How many parts a tree has.
 
-ghost use Rattle.std.specs.Prelude.{◌≡◌, ◌++◌, IfOk};
+ghost use Rattle.std.specs.Prelude.{◌≡◌, IfOk, length};
 ghost use Rattle.obq_base.specs.View.{arm_trees, bind_trees, expr_trees, field_trees, item_trees, link_trees, suffix_trees};
-ghost use Rattle.obq_model.specs.Draft.{count_arms, count_binds, count_exprs, count_items, count_suffixes, field_names, operators_of};
+ghost use Rattle.obq_model.specs.Draft.{behind_first, count_arms, count_binds, count_exprs, count_items, count_suffixes, field_names, operators_of};
 
 use crate::slots::counted;
 use obq_base::{Arm, Bind, Expr, Field, Item, Link, Name, NoMemory, Operator, Suffix};
 use sqlite_items::Items;
 use std::alloc::Global;
 
-#[tactic(auto, using(crate::proofs::Joined::items_count))]
-pub fn items_in(items: &[Item]) -> Result<u32, NoMemory>
-    ensures { IfOk result (λ n. n ≡ count_items (item_trees items.now)) }
+fn length_of<T>(items: &[T]) -> Result<u32, NoMemory>
+    ensures { IfOk result (λ n. n ≡ length items.now) }
 {
     counted(items.len())
 }
 
-#[tactic(auto, using(crate::proofs::Joined::binds_count))]
+pub fn items_in(items: &[Item]) -> Result<u32, NoMemory>
+    ensures { IfOk result (λ n. n ≡ count_items (item_trees items.now)) }
+{
+    length_of(items)
+}
+
 pub fn binds_in(binds: &[Bind]) -> Result<u32, NoMemory>
     ensures { IfOk result (λ n. n ≡ count_binds (bind_trees binds.now)) }
 {
-    counted(binds.len())
+    length_of(binds)
 }
 
-#[tactic(auto, using(crate::proofs::Joined::exprs_count))]
 pub fn values_in(values: &[Expr]) -> Result<u32, NoMemory>
     ensures { IfOk result (λ n. n ≡ count_exprs (expr_trees values.now)) }
 {
-    counted(values.len())
+    length_of(values)
 }
 
-#[tactic(auto, using(crate::proofs::Joined::arms_count))]
 pub fn arms_in(arms: &[Arm]) -> Result<u32, NoMemory>
     ensures { IfOk result (λ n. n ≡ count_arms (arm_trees arms.now)) }
 {
-    counted(arms.len())
+    length_of(arms)
 }
 
-#[tactic(auto, using(crate::proofs::Joined::suffixes_count))]
 pub fn suffixes_in(suffixes: &[Suffix]) -> Result<u32, NoMemory>
     ensures { IfOk result (λ n. n ≡ count_suffixes (suffix_trees suffixes.now)) }
 {
-    counted(suffixes.len())
+    length_of(suffixes)
+}
+
+/// How many suffixes stand behind the first.
+pub fn suffixes_behind(suffixes: &[Suffix]) -> Result<u32, NoMemory>
+    ensures { IfOk result (λ n. n ≡ count_suffixes (behind_first (suffix_trees suffixes.now))) }
+{
+    match suffixes.split_first() {
+        None => Ok(0),
+        Some((_, behind)) => suffixes_in(behind),
+    }
 }
 
 /// The operators of a chain.

@@ -3,5 +3,16 @@
 
 mod binders;
 mod collect;
+mod counts;
+mod emit;
 mod outside;
+mod output;
+mod refused;
+mod resolver;
 mod slots;
+
+pub use refused::ScopeRefused;
+pub use resolver::resolve;
+
+#[cfg(test)]
+mod tests;

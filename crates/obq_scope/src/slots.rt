@@ -1,12 +1,16 @@
 //! Where names are found, and what a procedure captures.
 
 ghost use Rattle.std.specs.Prelude.{◌≡◌, [], IfOk};
+ghost use Rattle.obq_base.specs.View.{expr_tree, suffix_trees};
+ghost use Rattle.obq_model.specs.Draft.{called_row, row_of_called};
+ghost use Rattle.obq_model.specs.Occurrences.{builtin_row};
 ghost use Rattle.obq_model.specs.Scopes.{captured_of, is_covered, slot_of, slots_of};
 ghost use Rattle.obq_scope.specs.Seen.{seen};
 
 use crate::binders::Binders;
 use crate::outside::Outside;
-use obq_base::{Name, NoMemory, Occurrence, Slot};
+use obq_base::{Expr, Name, NoMemory, Occurrence, Slot, Suffix};
+use obq_tables::{builtin_rows, find};
 use sqlite_items::Items;
 use std::alloc::Global;
 
@@ -75,4 +79,47 @@ pub fn find_slots(
         slots.push(find_slot(outside, locals, name)?)?;
     }
     Ok(slots)
+}
+
+/// The row of a built-in.
+#[tactic(auto, unfolding(obq_model::specs::Occurrences::builtin_row))]
+pub fn find_builtin(name: &Name) -> Option<usize>
+    ensures { result ≡ builtin_row name.now }
+{
+    find(builtin_rows(), name.as_bytes())
+}
+
+/// The row of the built-in that a call of this name calls.
+fn row_of_name(
+    outside: &Outside,
+    locals: &Binders,
+    name: &Name,
+) -> Result<Option<u32>, NoMemory>
+    ensures { IfOk result (λ row. row ≡ row_of_called (seen outside.now) locals.now name.now) }
+{
+    if has_binder(outside, locals, name) {
+        return Ok(None);
+    }
+    match find_builtin(name) {
+        None => Ok(None),
+        Some(row) => Ok(Some(counted(row)?)),
+    }
+}
+
+/// The row of the built-in that such a head and suffixes call.
+pub fn find_row(
+    outside: &Outside,
+    locals: &Binders,
+    head: &Expr,
+    suffixes: &[Suffix],
+) -> Result<Option<u32>, NoMemory>
+    ensures { IfOk result (λ row. row ≡ called_row (seen outside.now) locals.now (expr_tree head.now) (suffix_trees suffixes.now)) }
+{
+    match head {
+        Expr::Use { name, .. } => match suffixes.first() {
+            Some(Suffix::Apply { .. }) => row_of_name(outside, locals, name),
+            _ => Ok(None),
+        },
+        _ => Ok(None),
+    }
 }
