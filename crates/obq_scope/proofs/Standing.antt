@@ -42,9 +42,10 @@ begins table a c m t later e f = f ∙ ap (λ z. z ++ later) (e ∙ append_assoc
 whole_code : (source captures params : ℕ) (body : Draft) (before inner : Output) (table rest : List Code)
     → Stands source body (opened before) inner → table ≡ inner.codes ++ (record { params = params; captures = captures; nodes = inner.nodes }) ∷ rest
     → HasCode source table (next_number source inner) params captures (record { params = params; captures = captures; nodes = inner.nodes }) × IsCode source table body inner.nodes []
-whole_code source captures params body before inner table rest s e =
-    (record { source_is = refl; found = ap (λ z. slice_get z (length inner.codes)) e ∙ slice_get_behind inner.codes _ rest; params_are = refl; captures_are = refl },
-        subst (λ (x : List Node). IsCode source table body x []) (append-nil s.nodes ∙ sym s.nodes_are) (s.reads table _ [] e))
+whole_code source captures params body before inner table rest s e = (
+  record { source_is = refl; found = ap (λ z. slice_get z (length inner.codes)) e ∙ slice_get_behind inner.codes _ rest; params_are = refl; captures_are = refl },
+  subst (λ (x : List Node). IsCode source table body x []) (append-nil s.nodes ∙ sym s.nodes_are) (s.reads table _ [] e),
+)
 
 -- a node behind a code that is whole, and what follows
 record Behind (source captures params : ℕ) (body d : Draft) (a : Node) (before inner after : Output) : Type 0 where
@@ -80,37 +81,60 @@ mutual
       let mid : Output = emitted source d out in
       let s : Stands source d out mid = stands source d out in
       let t : Stands source f mid (emitted source f mid) = stands source f mid in
-      record { nodes = s.nodes ++ t.nodes; codes = s.codes ++ t.codes;
+      record {
+        nodes = s.nodes ++ t.nodes;
+        codes = s.codes ++ t.codes;
         nodes_are = t.nodes_are ∙ ap (λ z. z ++ t.nodes) s.nodes_are ∙ append_assoc out.nodes s.nodes t.nodes;
         codes_are = t.codes_are ∙ ap (λ z. z ++ t.codes) s.codes_are ∙ append_assoc out.codes s.codes t.codes;
-        reads = λ table later rest e. (t.nodes ++ rest,
-            subst (λ (x : List Node). IsCode source table d x (t.nodes ++ rest)) (sym (append_assoc s.nodes t.nodes rest))
-                (s.reads table (t.codes ++ later) (t.nodes ++ rest) (e ∙ ap (λ z. z ++ later) t.codes_are ∙ append_assoc mid.codes t.codes later)),
-            t.reads table later rest e) }
+        reads = λ table later rest e. (
+          t.nodes ++ rest,
+          subst (λ (x : List Node). IsCode source table d x (t.nodes ++ rest)) (sym (append_assoc s.nodes t.nodes rest))
+              (s.reads table (t.codes ++ later) (t.nodes ++ rest) (e ∙ ap (λ z. z ++ later) t.codes_are ∙ append_assoc mid.codes t.codes later)),
+          t.reads table later rest e,
+        );
+      }
   stands source (Closure from params body d) out =
       let inner : Output = emitted source body (opened out) in
       let a : Node = n.Proc (next_number source inner) from in
       let b : Behind source (length from) params body d a out inner (emitted source d (with_node a (closed (length from) params out.nodes inner)))
-          = code_behind source (length from) params body d a out inner _ (stands source body (opened out)) (stands source d _) in
-      record { nodes = a ∷ b.rest; codes = b.codes; nodes_are = b.nodes_are; codes_are = b.codes_are;
-        reads = λ table later rest e. (next_number source inner, _, b.rest ++ rest, refl, (b.whole table later e).0, (b.whole table later e).1, b.reads table later rest e) }
+      = code_behind source (length from) params body d a out inner _ (stands source body (opened out)) (stands source d _) in
+      record {
+        nodes = a ∷ b.rest;
+        codes = b.codes;
+        nodes_are = b.nodes_are;
+        codes_are = b.codes_are;
+        reads = λ table later rest e. (next_number source inner, _, b.rest ++ rest, refl, (b.whole table later e).0, (b.whole table later e).1, b.reads table later rest e);
+      }
   stands source (Method from params body d) out =
       let inner : Output = emitted source body (opened out) in
       let a : Node = n.Meth (next_number source inner) from in
       let b : Behind source (length from) params body d a out inner (emitted source d (with_node a (closed (length from) params out.nodes inner)))
-          = code_behind source (length from) params body d a out inner _ (stands source body (opened out)) (stands source d _) in
-      record { nodes = a ∷ b.rest; codes = b.codes; nodes_are = b.nodes_are; codes_are = b.codes_are;
-        reads = λ table later rest e. (next_number source inner, _, b.rest ++ rest, refl, (b.whole table later e).0, (b.whole table later e).1, b.reads table later rest e) }
+      = code_behind source (length from) params body d a out inner _ (stands source body (opened out)) (stands source d _) in
+      record {
+        nodes = a ∷ b.rest;
+        codes = b.codes;
+        nodes_are = b.nodes_are;
+        codes_are = b.codes_are;
+        reads = λ table later rest e. (next_number source inner, _, b.rest ++ rest, refl, (b.whole table later e).0, (b.whole table later e).1, b.reads table later rest e);
+      }
   stands source (Group from members d) out =
       let inner : Output = with_members source (length from) members out in
       let a : Node = n.LetRec (member_numbers source (length from) members out) from in
       let m : Stand source (length from) members out inner (member_numbers source (length from) members out) = members_stand source (length from) members out in
       let s : Stands source d (with_node a inner) (emitted source d (with_node a inner)) = stands source d (with_node a inner) in
-      record { nodes = a ∷ s.nodes; codes = m.codes ++ s.codes;
+      record {
+        nodes = a ∷ s.nodes;
+        codes = m.codes ++ s.codes;
         nodes_are = s.nodes_are ∙ append_assoc inner.nodes (a ∷ []) s.nodes ∙ ap (λ z. z ++ (a ∷ s.nodes)) m.nodes_are;
         codes_are = s.codes_are ∙ ap (λ z. z ++ s.codes) m.codes_are ∙ append_assoc out.codes m.codes s.codes;
-        reads = λ table later rest e. (member_numbers source (length from) members out, s.nodes ++ rest, refl,
-            m.reads table (s.codes ++ later) (e ∙ ap (λ z. z ++ later) s.codes_are ∙ append_assoc inner.codes s.codes later), s.reads table later rest e) }
+        reads = λ table later rest e. (
+          member_numbers source (length from) members out,
+          s.nodes ++ rest,
+          refl,
+          m.reads table (s.codes ++ later) (e ∙ ap (λ z. z ++ later) s.codes_are ∙ append_assoc inner.codes s.codes later),
+          s.reads table later rest e,
+        );
+      }
 
   members_stand : (source captures : ℕ) (members : Members) (out : Output) → Stand source captures members out (with_members source captures members out) (member_numbers source captures members out)
   members_stand source captures NoMembers out = record { codes = []; nodes_are = refl; codes_are = sym (append-nil out.codes); reads = λ table later e. refl }
@@ -120,12 +144,15 @@ mutual
       let b : Stands source body (opened out) inner = stands source body (opened out) in
       let next : Output = closed captures params out.nodes inner in
       let m : Stand source captures members next (with_members source captures members next) (member_numbers source captures members next) = members_stand source captures members next in
-      record { codes = b.codes ++ (code ∷ m.codes); nodes_are = m.nodes_are;
+      record {
+        codes = b.codes ++ (code ∷ m.codes);
+        nodes_are = m.nodes_are;
         codes_are = m.codes_are ∙ append_assoc inner.codes (code ∷ []) m.codes ∙ ap (λ z. z ++ (code ∷ m.codes)) b.codes_are ∙ append_assoc out.codes b.codes (code ∷ m.codes);
         reads = λ table later e.
             let w : HasCode source table (next_number source inner) params captures code × IsCode source table body inner.nodes []
-                = whole_code source captures params body out inner table (m.codes ++ later) b (begins table inner.codes code m.codes (with_members source captures members next).codes later m.codes_are e) in
-            (next_number source inner, code, member_numbers source captures members next, refl, w.0, w.1, m.reads table later e) }
+            = whole_code source captures params body out inner table (m.codes ++ later) b (begins table inner.codes code m.codes (with_members source captures members next).codes later m.codes_are e) in
+            (next_number source inner, code, member_numbers source captures members next, refl, w.0, w.1, m.reads table later e);
+      }
 
 -- a source's code that is whole resolves its block
 pub resolves : (source : ℕ) (tree : BlockTree) (out after : Output) (nodes : List Node) (made : SourceCode)
@@ -139,9 +166,11 @@ resolves source tree out after nodes made b e f g h k =
     let s : Stands source d out last = stands source d out in
     let codes_are : made.codes ≡ last.codes ++ code ∷ [] = k ∙ ap (λ (o : Output). o.codes) f in
     let at : HasCode source made.codes (next_number source last) 0 0 code
-        = record { source_is = refl; found = ap (λ z. slice_get z (length last.codes)) codes_are ∙ slice_get_behind last.codes code []; params_are = refl; captures_are = refl } in
+    = record { source_is = refl; found = ap (λ z. slice_get z (length last.codes)) codes_are ∙ slice_get_behind last.codes code []; params_are = refl; captures_are = refl } in
     record {
-      bound = b; source_is = g; main = code;
+      bound = b;
+      source_is = g;
+      main = code;
       found = subst (λ (m : CodeNo). HasCode source made.codes m 0 0 code) (sym h) at;
       reads = subst (λ (x : List Node). IsCode source made.codes d x []) (append-nil s.nodes ∙ sym (s.nodes_are ∙ ap (λ z. z ++ s.nodes) e)) (s.reads made.codes (code ∷ []) [] codes_are);
     }

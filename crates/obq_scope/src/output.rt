@@ -3,7 +3,7 @@
 ghost use Rattle.std.specs.Prelude.{◌≡◌, [], OnOk};
 ghost use Rattle.obq_base.specs.declared.code.Node.{Node};
 
-use obq_base::{Code, Node, NoMemory};
+use obq_base::{Code, NoMemory, Node};
 use sqlite_items::Items;
 use std::alloc::Global;
 

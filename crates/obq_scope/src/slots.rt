@@ -90,11 +90,7 @@ pub fn find_builtin(name: &Name) -> Option<usize>
 }
 
 /// The row of the built-in that a call of this name calls.
-fn row_of_name(
-    outside: &Outside,
-    locals: &Binders,
-    name: &Name,
-) -> Result<Option<u32>, NoMemory>
+fn row_of_name(outside: &Outside, locals: &Binders, name: &Name) -> Result<Option<u32>, NoMemory>
     ensures { IfOk result (λ row. row ≡ row_of_called (seen outside.now) locals.now name.now) }
 {
     if has_binder(outside, locals, name) {

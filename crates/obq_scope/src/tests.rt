@@ -70,10 +70,7 @@ fn procedure(alloc: Global, parameters: &[&str], items: Vec<Item>) -> Result<Pro
 }
 
 fn closure(alloc: Global, parameters: &[&str], items: Vec<Item>) -> Result<Expr, AllocError> {
-    Ok(Expr::Procedure(Boxed::new(
-        alloc,
-        procedure(alloc, parameters, items)?,
-    )?))
+    Ok(Expr::Procedure(Boxed::new(alloc, procedure(alloc, parameters, items)?)?))
 }
 
 fn member(alloc: Global, text: &str, procedure: Proc) -> Result<RecBind, AllocError> {
@@ -187,7 +184,7 @@ fn shadowed_let(alloc: Global) -> Result<Vec<Item>, AllocError> {
     Ok(vec![in alloc;
         let_one(alloc, "x", number())?,
         let_one(alloc, "x", use_at(alloc, "x", 0)?)?,
-        mention(alloc, "x")?
+        mention(alloc, "x")?,
     ]?)
 }
 
@@ -195,7 +192,7 @@ fn shadowed_let(alloc: Global) -> Result<Vec<Item>, AllocError> {
 fn later_binds(alloc: Global) -> Result<Vec<Item>, AllocError> {
     let binds = vec![in alloc;
         bind(alloc, "a", number())?,
-        bind(alloc, "b", use_at(alloc, "a", 0)?)?
+        bind(alloc, "b", use_at(alloc, "a", 0)?)?,
     ]?;
     let item = Item::Var {
         binds: Items::from_vec(binds),
@@ -214,7 +211,11 @@ fn counting(alloc: Global) -> Result<Vec<Item>, AllocError> {
         body,
         place: 0,
     });
-    Ok(vec![in alloc; let_one(alloc, "v", number())?, loop_item, mention(alloc, "v")?]?)
+    Ok(vec![in alloc;
+        let_one(alloc, "v", number())?,
+        loop_item,
+        mention(alloc, "v")?,
+    ]?)
 }
 
 /// `let v = 1; foreach v in v do v end; v`
@@ -226,14 +227,26 @@ fn each(alloc: Global) -> Result<Vec<Item>, AllocError> {
         body,
         place: 0,
     });
-    Ok(vec![in alloc; let_one(alloc, "v", number())?, loop_item, mention(alloc, "v")?]?)
+    Ok(vec![in alloc;
+        let_one(alloc, "v", number())?,
+        loop_item,
+        mention(alloc, "v")?,
+    ]?)
 }
 
 /// `let x = 1; let rec f = proc() g; x end, g = proc(f) f; proc() g end end; f`
 fn group(alloc: Global) -> Result<Vec<Item>, AllocError> {
-    let f = procedure(alloc, &[], vec![in alloc; mention(alloc, "g")?, mention(alloc, "x")?]?)?;
+    let f = procedure(
+        alloc,
+        &[],
+        vec![in alloc; mention(alloc, "g")?, mention(alloc, "x")?]?,
+    )?;
     let inner = closure(alloc, &[], vec![in alloc; mention(alloc, "g")?]?)?;
-    let g = procedure(alloc, &["f"], vec![in alloc; mention(alloc, "f")?, Item::Plain(inner)]?)?;
+    let g = procedure(
+        alloc,
+        &["f"],
+        vec![in alloc; mention(alloc, "f")?, Item::Plain(inner)]?,
+    )?;
     let item = Item::LetRec {
         binds: Items::from_vec(vec![in alloc; member(alloc, "f", f)?, member(alloc, "g", g)?]?),
         place: 0,
@@ -257,7 +270,7 @@ fn two_levels(alloc: Global) -> Result<Vec<Item>, AllocError> {
         mention(alloc, "x")?,
         mention(alloc, "y")?,
         mention(alloc, "z")?,
-        mention(alloc, "x")?
+        mention(alloc, "x")?,
     ]?;
     let inner = closure(alloc, &["z", "z"], items)?;
     let outer = closure(alloc, &["y"], vec![in alloc; Item::Plain(inner)]?)?;
@@ -266,7 +279,11 @@ fn two_levels(alloc: Global) -> Result<Vec<Item>, AllocError> {
 
 /// `let x = 1; { m => meth(s) s; x end }; { x => alias y of x end }.z`
 fn fields(alloc: Global) -> Result<Vec<Item>, AllocError> {
-    let method = procedure(alloc, &["s"], vec![in alloc; mention(alloc, "s")?, mention(alloc, "x")?]?)?;
+    let method = procedure(
+        alloc,
+        &["s"],
+        vec![in alloc; mention(alloc, "s")?, mention(alloc, "x")?]?,
+    )?;
     let first = object(alloc, "m", FieldExpr::Method(method))?;
     let alias = FieldExpr::Alias {
         name: name(alloc, "y")?,
@@ -278,7 +295,11 @@ fn fields(alloc: Global) -> Result<Vec<Item>, AllocError> {
         place: 0,
     };
     let second = suffixed(alloc, object(alloc, "x", alias)?, select)?;
-    Ok(vec![in alloc; let_one(alloc, "x", number())?, Item::Plain(first), Item::Plain(second)]?)
+    Ok(vec![in alloc;
+        let_one(alloc, "x", number())?,
+        Item::Plain(first),
+        Item::Plain(second),
+    ]?)
 }
 
 /// `not(stdout)`, or with `not` bound before
@@ -310,35 +331,81 @@ fn selected(alloc: Global) -> Result<Vec<Item>, AllocError> {
 
 /// `proc() a end; b`, with a and b at these places
 fn two_unbound(alloc: Global, a: u32, b: u32) -> Result<Vec<Item>, AllocError> {
-    let inner = closure(alloc, &[], vec![in alloc; Item::Plain(use_at(alloc, "a", a)?)]?)?;
+    let inner = closure(
+        alloc,
+        &[],
+        vec![in alloc; Item::Plain(use_at(alloc, "a", a)?)]?,
+    )?;
     Ok(vec![in alloc; Item::Plain(inner), Item::Plain(use_at(alloc, "b", b)?)]?)
 }
 
 #[test]
 fn binders_cover(rt: HostRuntime) -> Result<(), Fail> {
     let alloc = rt.alloc();
-    assert_eq!(rt; shown(alloc, shadowed_let(alloc)?)?.as_str(), "0/0: L0 L1 main 0");
-    assert_eq!(rt; shown(alloc, later_binds(alloc)?)?.as_str(), "0/0: L0 L1 main 0");
-    assert_eq!(rt; shown(alloc, counting(alloc)?)?.as_str(), "0/0: L0 L0 L1 L0 main 0");
-    assert_eq!(rt; shown(alloc, each(alloc)?)?.as_str(), "0/0: L0 L1 L0 main 0");
-    assert_eq!(rt; shown(alloc, group(alloc)?)?.as_str(), "0/1: M1 C0 0/1: C0 1/1: L0 code 1 from M1 0/0: code 0 from L0 code 2 from L0 L1 main 3");
-    assert_eq!(rt; shown(alloc, two_levels(alloc)?)?.as_str(), "2/2: C0 C1 L1 C0 1/1: code 0 from C0 L0 0/0: code 1 from L0 main 2");
-    assert_eq!(rt; shown(alloc, fields(alloc)?)?.as_str(), "1/1: L0 C0 0/0: code 0 from L0 L0 main 1");
+    assert_eq!(rt;
+        shown(alloc, shadowed_let(alloc)?)?.as_str(),
+        "0/0: L0 L1 main 0"
+    );
+    assert_eq!(rt;
+        shown(alloc, later_binds(alloc)?)?.as_str(),
+        "0/0: L0 L1 main 0"
+    );
+    assert_eq!(rt;
+        shown(alloc, counting(alloc)?)?.as_str(),
+        "0/0: L0 L0 L1 L0 main 0"
+    );
+    assert_eq!(rt;
+        shown(alloc, each(alloc)?)?.as_str(),
+        "0/0: L0 L1 L0 main 0"
+    );
+    assert_eq!(rt;
+        shown(alloc, group(alloc)?)?.as_str(),
+        "0/1: M1 C0 0/1: C0 1/1: L0 code 1 from M1 0/0: code 0 from L0 code 2 from L0 L1 main 3"
+    );
+    assert_eq!(rt;
+        shown(alloc, two_levels(alloc)?)?.as_str(),
+        "2/2: C0 C1 L1 C0 1/1: code 0 from C0 L0 0/0: code 1 from L0 main 2"
+    );
+    assert_eq!(rt;
+        shown(alloc, fields(alloc)?)?.as_str(),
+        "1/1: L0 C0 0/0: code 0 from L0 L0 main 1"
+    );
     Ok(())
 }
 
 #[test]
 fn names_without_a_binder(rt: HostRuntime) -> Result<(), Fail> {
     let alloc = rt.alloc();
-    assert_eq!(rt; shown(alloc, calls(alloc, false)?)?.as_str(), "0/0: row 13 of 1 S7 main 0");
-    assert_eq!(rt; shown(alloc, calls(alloc, true)?)?.as_str(), "0/0: L0 S7 main 0");
+    assert_eq!(rt;
+        shown(alloc, calls(alloc, false)?)?.as_str(),
+        "0/0: row 13 of 1 S7 main 0"
+    );
+    assert_eq!(rt;
+        shown(alloc, calls(alloc, true)?)?.as_str(),
+        "0/0: L0 S7 main 0"
+    );
     assert_eq!(rt; shown(alloc, passed(alloc)?)?.as_str(), "not at 4");
     assert_eq!(rt; shown(alloc, selected(alloc)?)?.as_str(), "not at 1");
-    assert_eq!(rt; shown(alloc, vec![in alloc; assign(alloc, "stdout", 0)?]?)?.as_str(), "0/0: assign S7 main 0");
-    assert_eq!(rt; shown(alloc, vec![in alloc; assign(alloc, "not", 2)?]?)?.as_str(), "not at 2");
-    assert_eq!(rt; shown(alloc, vec![in alloc; assign(alloc, "x", 0)?]?)?.as_str(), "x at 0");
+    assert_eq!(rt;
+        shown(alloc, vec![in alloc; assign(alloc, "stdout", 0)?]?)?.as_str(),
+        "0/0: assign S7 main 0"
+    );
+    assert_eq!(rt;
+        shown(alloc, vec![in alloc; assign(alloc, "not", 2)?]?)?.as_str(),
+        "not at 2"
+    );
+    assert_eq!(rt;
+        shown(alloc, vec![in alloc; assign(alloc, "x", 0)?]?)?.as_str(),
+        "x at 0"
+    );
     assert_eq!(rt; shown(alloc, before_group(alloc)?)?.as_str(), "f at 3");
-    assert_eq!(rt; shown(alloc, two_unbound(alloc, 7, 15)?)?.as_str(), "a at 7");
-    assert_eq!(rt; shown(alloc, two_unbound(alloc, 15, 7)?)?.as_str(), "b at 7");
+    assert_eq!(rt;
+        shown(alloc, two_unbound(alloc, 7, 15)?)?.as_str(),
+        "a at 7"
+    );
+    assert_eq!(rt;
+        shown(alloc, two_unbound(alloc, 15, 7)?)?.as_str(),
+        "b at 7"
+    );
     Ok(())
 }
