@@ -1,3 +1,5 @@
 pub mod Emitted
+pub mod Indexed
+pub mod PlaceAt
 pub mod Refused
 pub mod Seen

@@ -1,25 +1,37 @@
 //! The names that binders bind, in order.
 
-ghost use Rattle.std.specs.Prelude.{◌≡◌, [], ◌∷◌, ◌++◌, OnOk, IfOk, length, take};
+ghost use Rattle.std.specs.Prelude.{◌≡◌, ◌≤◌, ◌<◌, ◌-◌, [], ◌∷◌, ◌++◌, OnOk, IfOk, length, take};
 ghost use Rattle.obq_model.specs.Put.{among};
 ghost use Rattle.obq_model.specs.Scopes.{last_place};
 
+use crate::places::Places;
 use obq_base::{Name, NoMemory};
 use std::alloc::Global;
 use std::marker::Model;
 
-/// Names in the order in which they were bound. Contracts see the list.
+/// Names in the order in which they were bound, found in a time that grows with the logarithm of
+/// their number. Contracts see the list. After a push that found no memory it still holds its names,
+/// and looks for them from the front.
 #[derive(Drop)]
 pub struct Binders {
+    alloc: Global,
     names: Vec<Name>,
+    /// The last place of each name, while `indexed`.
+    places: Places,
+    /// For each name the last place of an equal one before it, while `indexed`.
+    earlier: Vec<Option<usize>>,
+    indexed: bool,
 }
 
 impl Model for Binders {
-    ghost use Rattle.std.specs.Prelude.{List, ℕ};
+    ghost use Rattle.std.specs.Prelude.{◌≡◌, List, true, ℕ};
+    ghost use Rattle.obq_scope.specs.Indexed.{IsIndexed};
 
     ghost Value = { List (List ℕ) };
 
     ghost view = { λ b. b.names.items };
+
+    ghost invariant = { λ b. b.indexed ≡ true → IsIndexed b.places.map b.earlier.items b.names.items };
 }
 
 impl Binders {
@@ -27,7 +39,11 @@ impl Binders {
         ensures { result ≡ [] }
     {
         Binders {
+            alloc,
             names: Vec::new(alloc),
+            places: Places::new(alloc),
+            earlier: Vec::new(alloc),
+            indexed: true,
         }
     }
 
@@ -40,15 +56,41 @@ impl Binders {
     pub fn push(&mut self, name: Name) -> Result<(), NoMemory>
         ensures { OnOk result (self.new ≡ self.old ++ name ∷ []) }
     {
+        let indexed = self.indexed;
+        self.indexed = false;
+        let place = self.names.len();
+        let before = self.places.insert(self.alloc, name.as_bytes(), place)?;
+        self.earlier.push(before)?;
         self.names.push(name)?;
+        self.indexed = indexed;
         Ok(())
+    }
+
+    /// Takes the last one away.
+    fn pop(&mut self)
+        ensures { self.new ≡ take (length self.old - 1) self.old }
+    {
+        let indexed = self.indexed;
+        self.indexed = false;
+        let Some(name) = self.names.pop() else {
+            return;
+        };
+        let Some(before) = self.earlier.pop() else {
+            return;
+        };
+        if !indexed {
+            return;
+        }
+        self.indexed = self.places.restore(name.as_bytes(), before);
     }
 
     /// Takes the later ones away.
     pub fn truncate(&mut self, len: usize)
         ensures { self.new ≡ take len self.old }
     {
-        self.names.truncate(len);
+        while self.len() > len {
+            self.pop();
+        }
     }
 
     pub fn as_slice(&self) -> &[Name]
@@ -60,13 +102,16 @@ impl Binders {
     pub fn contains(&self, name: &Name) -> bool
         ensures { result ≡ among name.now self.now }
     {
-        is_among(name, self.names.as_slice())
+        self.last_place(name).is_some()
     }
 
     /// The place of the last one with this name.
     pub fn last_place(&self, name: &Name) -> Option<usize>
         ensures { result ≡ last_place name.now self.now }
     {
+        if self.indexed {
+            return self.places.get(name.as_bytes());
+        }
         find_last(name, self.names.as_slice())
     }
 
@@ -79,17 +124,6 @@ impl Binders {
         }
         Ok(())
     }
-}
-
-fn is_among(name: &Name, names: &[Name]) -> bool
-    ensures { result ≡ among name.now names.now }
-{
-    for other in names {
-        if name == other {
-            return true;
-        }
-    }
-    false
 }
 
 fn find_last(name: &Name, names: &[Name]) -> Option<usize>

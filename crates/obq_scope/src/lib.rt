@@ -6,6 +6,7 @@ mod collect;
 mod counts;
 mod emit;
 mod output;
+mod places;
 mod outside;
 mod refused;
 mod resolver;
