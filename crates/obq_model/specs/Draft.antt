@@ -1,12 +1,12 @@
 -- The code of a tree before its procedures have numbers: its nodes in preorder, with the code of each procedure beside its node.
-use Rattle.std.specs.Prelude.{Bool, List, None, Option, Some, [], false, if◌then◌else◌, length, suc, true, zero, ℕ, ◌++◌, ◌∷◌}
+use Rattle.std.specs.Prelude.{Bool, List, None, Option, Some, [], false, if◌then◌else◌, length, suc, true, ℕ, ◌++◌, ◌∷◌}
 use Rattle.obq_base.specs.declared.trees.Operator.{Operator}
 use Rattle.obq_base.specs.declared.code.Slot.{Slot}
 use Rattle.obq_base.specs.declared.code.Node.{Node}
 use Rattle.obq_base.specs.declared.code.Node.TheVariants as n
 use Rattle.obq_base.specs.Tree.{BlockTree, BlockOf, MaybeBlock, NoBlock, ABlock, ItemTrees, NoItems, AnItem, ItemTree, LetItem, VarItem, LetRecItem, AssignItem, FieldItem, IndexItem, PlainItem, BindTrees, NoBinds, ABind, RecBindTrees, NoRecBinds, ARecBind, ProcedureTree, AProc, FieldTree, ValueOf, MethodOf, AliasOf, ExprTree, IntTree, TextTree, TruthTree, OkTree, NameTree, ProcTree, ArrayTree, ObjectTree, IfTree, LoopTree, ExitTree, ForTree, ForeachTree, TryTree, FinallyTree, RaiseTree, WatchTree, RedirectTree, CloneTree, ChainTree, SuffixedTree, ExprTrees, NoExprs, AnExpr, LinkTrees, NoLinks, ALink, SuffixTree, ApplySuffix, SelectSuffix, InvokeSuffix, IndexSuffix, SuffixTrees, NoSuffixes, ASuffix, ArmTrees, NoArms, AnArm, FieldTrees, NoFields, AField}
 use Rattle.obq_model.specs.Terms.{Bytes}
-use Rattle.obq_model.specs.Occurrences.{bind_names, builtin_row, free_members, free_procedure, item_names, member_names}
+use Rattle.obq_model.specs.Occurrences.{builtin_row, free_members, free_procedure, item_names, member_names}
 use Rattle.obq_model.specs.Scopes.{Outside, captured_of, inside, is_covered, slot_of, slots_of}
 
 mutual
@@ -157,8 +157,9 @@ abbrev mutual
   draft_expr o locals (ChainTree e links) = Plain (n.Chain (operators_of links)) (Both (draft_expr o locals e) (draft_links o locals links))
   draft_expr o locals (SuffixedTree e ss) =
       elim (called_row o locals e ss) [
-          None ↦ Plain (n.Suffixes (count_suffixes ss)) (Both (draft_expr o locals e) (draft_suffixes o locals None ss))
-        | Some row ↦ Plain (n.Suffixes (count_suffixes (behind_first ss))) (draft_suffixes o locals (Some row) ss) ]
+        | None ↦ Plain (n.Suffixes (count_suffixes ss)) (Both (draft_expr o locals e) (draft_suffixes o locals None ss))
+        | Some row ↦ Plain (n.Suffixes (count_suffixes (behind_first ss))) (draft_suffixes o locals (Some row) ss)
+      ]
 
   pub draft_exprs : Outside → List Bytes → ExprTrees → Draft
   draft_exprs o locals NoExprs = Done

@@ -1,5 +1,5 @@
 -- The occurrences of names in a tree, and those that no binder covers. Field names and the names behind `alias` are no occurrences.
-use Rattle.std.specs.Prelude.{All, Option, Bool, Contains, List, [], bytes_eq, codes, false, filter, if◌then◌else◌, is_some, not, position, true, ℕ, ◌&&◌, ◌++◌, ◌∷◌, ◌≡◌, ◌≤◌, ◌||◌}
+use Rattle.std.specs.Prelude.{All, Option, Bool, Contains, List, [], bytes_eq, codes, false, filter, if◌then◌else◌, is_some, not, position, true, ℕ, ◌&&◌, ◌++◌, ◌∷◌, ◌≤◌, ◌||◌}
 use Rattle.obq_base.specs.declared.occurrences.Occurrence.{Occurrence}
 use Rattle.obq_base.specs.Tree.{BlockTree, BlockOf, MaybeBlock, NoBlock, ABlock, ItemTrees, NoItems, AnItem, ItemTree, LetItem, VarItem, LetRecItem, AssignItem, FieldItem, IndexItem, PlainItem, BindTrees, NoBinds, ABind, RecBindTrees, NoRecBinds, ARecBind, ProcedureTree, AProc, FieldTree, ValueOf, MethodOf, AliasOf, ExprTree, IntTree, TextTree, TruthTree, OkTree, NameTree, ProcTree, ArrayTree, ObjectTree, IfTree, LoopTree, ExitTree, ForTree, ForeachTree, TryTree, FinallyTree, RaiseTree, WatchTree, RedirectTree, CloneTree, ChainTree, SuffixedTree, ExprTrees, NoExprs, AnExpr, LinkTrees, NoLinks, ALink, SuffixTree, ApplySuffix, SelectSuffix, InvokeSuffix, IndexSuffix, SuffixTrees, NoSuffixes, ASuffix, ArmTrees, NoArms, AnArm, FieldTrees, NoFields, AField}
 use Rattle.obq_tables.specs.Tables.{builtins}

@@ -1,13 +1,11 @@
 -- What the codes of sources stand for.
-use Rattle.std.specs.Prelude.{List, None, Option, Some, [], length, option_and_then, slice_get, ℕ, ◌∷◌, ◌≡◌}
-use Rattle.obq_base.specs.declared.code.Slot.{Slot}
+use Rattle.std.specs.Prelude.{List, Option, Some, [], length, option_and_then, slice_get, ℕ, ◌∷◌, ◌≡◌}
 use Rattle.obq_base.specs.declared.code.Node.{Node}
 use Rattle.obq_base.specs.declared.code.Node.TheVariants as n
 use Rattle.obq_base.specs.declared.code.Code.{Code}
 use Rattle.obq_base.specs.declared.code.CodeNo.{CodeNo}
 use Rattle.obq_base.specs.declared.code.SourceCode.{SourceCode}
 use Rattle.obq_base.specs.Tree.{BlockTree}
-use Rattle.obq_base.specs.declared.occurrences.Occurrence.{Occurrence}
 use Rattle.obq_model.specs.Draft.{Draft, Done, Plain, Both, Closure, Method, Group, Members, NoMembers, AMember, draft_block}
 use Rattle.obq_model.specs.Occurrences.{unbound}
 use Rattle.obq_model.specs.Scopes.{outermost}
@@ -31,10 +29,10 @@ abbrev mutual
   IsCode source codes (Both d e) nodes rest = (x : List Node) × IsCode source codes d nodes x × IsCode source codes e x rest
   IsCode source codes (Closure from params body d) nodes rest =
       (number : CodeNo) × (code : Code) × (x : List Node) × (nodes ≡ n.Proc number from ∷ x) × HasCode source codes number params (length from) code
-          × IsCode source codes body code.nodes [] × IsCode source codes d x rest
+      × IsCode source codes body code.nodes [] × IsCode source codes d x rest
   IsCode source codes (Method from params body d) nodes rest =
       (number : CodeNo) × (code : Code) × (x : List Node) × (nodes ≡ n.Meth number from ∷ x) × HasCode source codes number params (length from) code
-          × IsCode source codes body code.nodes [] × IsCode source codes d x rest
+      × IsCode source codes body code.nodes [] × IsCode source codes d x rest
   IsCode source codes (Group from members d) nodes rest =
       (numbers : List CodeNo) × (x : List Node) × (nodes ≡ n.LetRec numbers from ∷ x) × AreCodes source codes (length from) members numbers × IsCode source codes d x rest
 
@@ -43,7 +41,7 @@ abbrev mutual
   AreCodes source codes captures NoMembers numbers = numbers ≡ []
   AreCodes source codes captures (AMember params body members) numbers =
       (number : CodeNo) × (code : Code) × (rest : List CodeNo) × (numbers ≡ number ∷ rest) × HasCode source codes number params captures code
-          × IsCode source codes body code.nodes [] × AreCodes source codes captures members rest
+      × IsCode source codes body code.nodes [] × AreCodes source codes captures members rest
 
 -- the block has no unbound name, and read back with its names the code is the block
 pub record Resolves (source : ℕ) (tree : BlockTree) (made : SourceCode) : Type 0 where

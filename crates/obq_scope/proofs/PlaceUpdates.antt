@@ -1,6 +1,6 @@
 -- What a change at a name leaves at every name.
 use Rattle.std.proofs.Common.{◌≡◌, ◌∙◌, inl, inr, ℕ, List, Bool, true, false, cond, sym, subst, Option, bytes_eq}
-use Rattle.std.specs.Ordering.{is_eq, nat_cmp, eq_by_cmp}
+use Rattle.std.specs.Ordering.{nat_cmp}
 use Rattle.std.specs.Cmp.{eq_by_cmp_equiv}
 use Rattle.std.specs.Cmp.Lexicographic.{slice_cmp, bytes_decides, nat_list_cmp_total, nat_list_eq_equiv}
 use Rattle.std.specs.Map.{lookup, IsKeyTest, AreApart, KeepsOthers}
@@ -21,5 +21,6 @@ other_names eq test other old new h = h other
 pub updated : (bs : List ℕ) (m n : BTreeMap (Vec ℕ) ℕ) (w : Option ℕ) → tree.UpdatesBy (λ x y. slice_cmp nat_cmp x.items y.items) (λ k. slice_cmp nat_cmp bs k.items) m n w
     → (cs : List ℕ) → place_at n cs ≡ cond (bytes_eq bs cs) w (place_at m cs)
 updated bs m n w h cs = elim (cases_Bool (bytes_eq bs cs)) [
-    inl y ↦ subst (λ l. place_at n l ≡ w) ((bytes_decides bs cs).0 y) h.1 ∙ sym (cond-true (bytes_eq bs cs) w (place_at m cs) y)
-  | inr e ↦ other_names _ _ _ m.entries n.entries h.3 (λ x y. (eq_by_cmp_equiv nat_list_cmp_total).congr cs x.items y.items) (λ k t. is_eq-slice_cmp cs k.items ∙ apart bs cs k.items e (sym (is_eq-slice_cmp bs k.items) ∙ t)) ∙ sym (cond-false (bytes_eq bs cs) w (place_at m cs) e) ]
+  | inl y ↦ subst (λ l. place_at n l ≡ w) ((bytes_decides bs cs).0 y) h.1 ∙ sym (cond-true (bytes_eq bs cs) w (place_at m cs) y)
+  | inr e ↦ other_names _ _ _ m.entries n.entries h.3 (λ x y. (eq_by_cmp_equiv nat_list_cmp_total).congr cs x.items y.items) (λ k t. is_eq-slice_cmp cs k.items ∙ apart bs cs k.items e (sym (is_eq-slice_cmp bs k.items) ∙ t)) ∙ sym (cond-false (bytes_eq bs cs) w (place_at m cs) e)
+]

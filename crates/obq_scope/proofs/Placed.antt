@@ -22,7 +22,6 @@ last_place-push q x xs =
     let e : 0 + length xs ≡ length xs = omega arith in
     last_from-push 0 None q x xs ∙ ap (λ (n : ℕ). cond (bytes_eq q x) (Some n) (last_place q xs)) e
 
-
 some_of : (e : Bool) (k : ℕ) (found : Option ℕ) → is_some (cond e (Some k) found) ≡ (e || is_some found)
 some_of true k found = refl
 some_of false k found = refl
@@ -61,10 +60,10 @@ same_way x q = nat_list_eq_equiv.symm x q
 pushed : (m n : BTreeMap (Vec ℕ) ℕ) (earlier : List (Option ℕ)) (names : List (List ℕ)) (x : List ℕ) (w : Option ℕ) (place : ℕ) → IsIndexed m earlier names → place ≡ length names
     → ((q : List ℕ) → place_at n q ≡ cond (bytes_eq x q) (Some place) (place_at m q)) → w ≡ place_at m x → IsIndexed n (earlier ++ w ∷ []) (names ++ x ∷ [])
 pushed m n earlier names x w place i f h e = record {
-    places = λ q. h q ∙ ap (λ (k : ℕ). cond (bytes_eq x q) (Some k) (place_at m q)) f ∙ ap (λ (b : Bool). cond b (Some (length names)) (place_at m q)) (same_way x q)
-        ∙ ap (λ (o : Option ℕ). cond (bytes_eq q x) (Some (length names)) o) (i.places q) ∙ sym (last_place-push q x names);
-    befores = ap (λ (l : List (Option ℕ)). l ++ w ∷ []) i.befores ∙ ap (λ (o : Option ℕ). earlier_places [] names ++ o ∷ []) (e ∙ i.places x) ∙ sym (earlier-push [] names x);
-  }
+  places = λ q. h q ∙ ap (λ (k : ℕ). cond (bytes_eq x q) (Some k) (place_at m q)) f ∙ ap (λ (b : Bool). cond b (Some (length names)) (place_at m q)) (same_way x q)
+      ∙ ap (λ (o : Option ℕ). cond (bytes_eq q x) (Some (length names)) o) (i.places q) ∙ sym (last_place-push q x names);
+  befores = ap (λ (l : List (Option ℕ)). l ++ w ∷ []) i.befores ∙ ap (λ (o : Option ℕ). earlier_places [] names ++ o ∷ []) (e ∙ i.places x) ∙ sym (earlier-push [] names x);
+}
 
 -- a name is bound
 pub indexed_push : (m n : BTreeMap (Vec ℕ) ℕ) (earlier more : List (Option ℕ)) (names all : List (List ℕ)) (x key : List ℕ) (w : Option ℕ) (place : ℕ) → IsIndexed m earlier names
@@ -108,11 +107,12 @@ pub indexed_pop : (m n : BTreeMap (Vec ℕ) ℕ) (earlier before_pop : List (Opt
 indexed_pop m n earlier before_pop names all x key w i k e a g =
     let h : (q : List ℕ) → place_at n q ≡ cond (bytes_eq x q) w (place_at m q) = λ q. g q ∙ ap (λ (y : List ℕ). cond (bytes_eq y q) w (place_at m q)) k in
     let parts : (earlier ≡ earlier_places [] names) × (w ≡ last_place x names)
-        = list_of earlier (earlier_places [] names) w (last_place x names) (sym e ∙ i.befores ∙ ap (λ (l : List (List ℕ)). earlier_places [] l) a ∙ earlier-push [] names x) in
+    = list_of earlier (earlier_places [] names) w (last_place x names) (sym e ∙ i.befores ∙ ap (λ (l : List (List ℕ)). earlier_places [] l) a ∙ earlier-push [] names x) in
     record {
       places = λ q. elim (cases_Bool (bytes_eq x q)) [
-          inl y ↦ h q ∙ cond-true (bytes_eq x q) w (place_at m q) y ∙ parts.1 ∙ ap (λ (z : List ℕ). last_place z names) ((bytes_decides x q).0 y)
+        | inl y ↦ h q ∙ cond-true (bytes_eq x q) w (place_at m q) y ∙ parts.1 ∙ ap (λ (z : List ℕ). last_place z names) ((bytes_decides x q).0 y)
         | inr d ↦ h q ∙ cond-false (bytes_eq x q) w (place_at m q) d ∙ i.places q ∙ ap (λ (l : List (List ℕ)). last_place q l) a ∙ last_place-push q x names
-            ∙ cond-false (bytes_eq q x) (Some (length names)) (last_place q names) (sym (same_way x q) ∙ d) ];
+            ∙ cond-false (bytes_eq q x) (Some (length names)) (last_place q names) (sym (same_way x q) ∙ d)
+      ];
       befores = parts.0;
     }

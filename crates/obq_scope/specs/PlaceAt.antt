@@ -1,5 +1,5 @@
 -- The place that a map has for a name.
-use Rattle.std.specs.Prelude.{List, Option, ℕ, bytes_eq}
+use Rattle.std.specs.Prelude.{List, Option, ℕ}
 use Rattle.std.specs.Ordering.{nat_cmp}
 use Rattle.std.specs.Cmp.Lexicographic.{slice_cmp}
 use Rattle.std.specs.BTreeMap as tree

@@ -1,4 +1,4 @@
-use Rattle.std.proofs.Common.{◌≡◌, refl}
+use Rattle.std.proofs.Common.{refl}
 use Rattle.obq_base.specs.View.{block_tree}
 use Rattle.obq_scope.specs.Emitted.{opened}
 use Rattle.obq_scope.proofs.Standing.{resolves}

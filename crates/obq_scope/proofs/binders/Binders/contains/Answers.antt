@@ -1,4 +1,4 @@
-use Rattle.std.proofs.Common.{◌≡◌, ◌∙◌, ap, is_some, rules}
+use Rattle.std.proofs.Common.{◌∙◌, ap, is_some}
 use Rattle.obq_scope.proofs.Placed.{last_place-among}
 use Rattle.obq_scope.proofs.binders.Binders.contains.Goals as goal
 

@@ -1,4 +1,4 @@
-use Rattle.std.proofs.Common.{◌≡◌, IsTrue, rules, subst, sym, true}
+use Rattle.std.proofs.Common.{rules}
 use Rattle.obq_scope.proofs.Placed.{indexed_pop}
 use Rattle.obq_scope.proofs.binders.Binders.pop.Goals as goal
 

@@ -1,4 +1,4 @@
-use Rattle.std.proofs.Common.{◌≡◌, arith, rules}
+use Rattle.std.proofs.Common.{arith, rules}
 use Rattle.obq_scope.proofs.Placed.{indexed_push}
 use Rattle.obq_scope.proofs.binders.Binders.push.Goals as goal
 

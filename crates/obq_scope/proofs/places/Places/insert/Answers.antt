@@ -1,8 +1,7 @@
-use Rattle.std.proofs.Common.{◌≡◌, ℕ, List, Some, bytes_eq, cond, subst}
+use Rattle.std.proofs.Common.{ℕ, List, Some, subst}
 use Rattle.std.specs.Ordering.{nat_cmp}
 use Rattle.std.specs.Cmp.Lexicographic.{slice_cmp}
 use Rattle.std.specs.BTreeMap as tree
-use Rattle.obq_scope.specs.PlaceAt.{place_at}
 use Rattle.obq_scope.proofs.PlaceUpdates.{updated}
 use Rattle.obq_scope.proofs.places.Places.insert.Goals as goal
 

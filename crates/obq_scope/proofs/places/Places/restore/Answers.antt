@@ -1,4 +1,4 @@
-use Rattle.std.proofs.Common.{◌≡◌, ℕ, List, None, Option, Some, bytes_eq, cond, sym, subst, rules}
+use Rattle.std.proofs.Common.{◌≡◌, ℕ, None, Option, Some, bytes_eq, cond, sym, subst, rules}
 use Rattle.obq_scope.specs.PlaceAt.{place_at}
 use Rattle.obq_scope.proofs.PlaceUpdates.{updated}
 use Rattle.obq_scope.proofs.places.Places.restore.Goals as goal
