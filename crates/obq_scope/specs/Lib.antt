@@ -1,4 +1,5 @@
 pub mod Emitted
+pub mod Heads
 pub mod Indexed
 pub mod PlaceAt
 pub mod Refused

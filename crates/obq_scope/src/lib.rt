@@ -5,6 +5,7 @@ mod binders;
 mod collect;
 mod counts;
 mod emit;
+mod heads;
 mod output;
 mod outside;
 mod places;
