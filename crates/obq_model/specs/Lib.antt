@@ -3,6 +3,7 @@ pub mod Cells
 pub mod CommandLine
 pub mod Config
 pub mod Depth
+pub mod Draft
 pub mod Effect
 pub mod Exceptions
 pub mod Forms
@@ -11,12 +12,15 @@ pub mod Journal
 pub mod Located
 pub mod Maps
 pub mod Nodes
+pub mod Occurrences
 pub mod Opening
 pub mod Output
 pub mod Put
 pub mod PutTexts
 pub mod Reading
 pub mod Replay
+pub mod Resolved
+pub mod Scopes
 pub mod Shapes
 pub mod Sources
 pub mod Spans

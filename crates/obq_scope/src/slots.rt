@@ -1,0 +1,121 @@
+//! Where names are found, and what a procedure captures.
+
+ghost use Rattle.std.specs.Prelude.{◌≡◌, [], IfOk};
+ghost use Rattle.obq_base.specs.View.{expr_tree, suffix_trees};
+ghost use Rattle.obq_model.specs.Draft.{called_row, row_of_called};
+ghost use Rattle.obq_model.specs.Occurrences.{builtin_row};
+ghost use Rattle.obq_model.specs.Scopes.{captured_of, is_covered, slot_of, slots_of};
+ghost use Rattle.obq_scope.specs.Seen.{seen};
+
+use crate::binders::Binders;
+use crate::outside::Outside;
+use obq_base::{Expr, Name, NoMemory, Occurrence, Slot, Suffix};
+use obq_tables::{builtin_rows, find};
+use sqlite_items::Items;
+use std::alloc::Global;
+
+/// A number as codes have it; as if memory were out where it has more than 32 bits.
+pub fn counted(number: usize) -> Result<u32, NoMemory>
+    ensures { IfOk result (λ n. n ≡ number) }
+{
+    if number > u32::MAX as usize {
+        return Err(NoMemory);
+    }
+    Ok(number as u32)
+}
+
+/// The slot of a name under the code's own binders.
+pub fn find_slot(outside: &Outside, locals: &Binders, name: &Name) -> Result<Slot, NoMemory>
+    ensures { IfOk result (λ slot. slot ≡ slot_of (seen outside.now) locals.now name.now) }
+{
+    if let Some(k) = locals.last_place(name) {
+        return Ok(Slot::Local(counted(k)?));
+    }
+    if let Some(k) = outside.members.last_place(name) {
+        return Ok(Slot::Member(counted(k)?));
+    }
+    if let Some(k) = outside.captured.last_place(name) {
+        return Ok(Slot::Captured(counted(k)?));
+    }
+    Ok(Slot::Stdout(outside.source as u32))
+}
+
+/// Whether a binder covers the name.
+pub fn has_binder(outside: &Outside, locals: &Binders, name: &Name) -> bool
+    ensures { result ≡ is_covered (seen outside.now) locals.now name.now }
+{
+    locals.contains(name) || outside.members.contains(name) || outside.captured.contains(name)
+}
+
+/// The names that a procedure with these free occurrences captures.
+pub fn find_captured(
+    alloc: Global,
+    outside: &Outside,
+    locals: &Binders,
+    found: &[Occurrence],
+) -> Result<Binders, NoMemory>
+    ensures { IfOk result (λ names. names ≡ captured_of (seen outside.now) locals.now found.now) }
+{
+    let mut names = Binders::new(alloc);
+    for occurrence in found {
+        if has_binder(outside, locals, &occurrence.name) && !names.contains(&occurrence.name) {
+            names.push(occurrence.name.copy(alloc)?)?;
+        }
+    }
+    Ok(names)
+}
+
+/// The slots of these names.
+pub fn find_slots(
+    alloc: Global,
+    outside: &Outside,
+    locals: &Binders,
+    names: &[Name],
+) -> Result<Items<Slot>, NoMemory>
+    ensures { IfOk result (λ slots. slots ≡ slots_of (seen outside.now) locals.now names.now) }
+{
+    let mut slots = Items::new(alloc);
+    for name in names {
+        slots.push(find_slot(outside, locals, name)?)?;
+    }
+    Ok(slots)
+}
+
+/// The row of a built-in.
+#[tactic(auto, unfolding(obq_model::specs::Occurrences::builtin_row))]
+pub fn find_builtin(name: &Name) -> Option<usize>
+    ensures { result ≡ builtin_row name.now }
+{
+    find(builtin_rows(), name.as_bytes())
+}
+
+/// The row of the built-in that a call of this name calls.
+fn row_of_name(outside: &Outside, locals: &Binders, name: &Name) -> Result<Option<u32>, NoMemory>
+    ensures { IfOk result (λ row. row ≡ row_of_called (seen outside.now) locals.now name.now) }
+{
+    if has_binder(outside, locals, name) {
+        return Ok(None);
+    }
+    match find_builtin(name) {
+        None => Ok(None),
+        Some(row) => Ok(Some(counted(row)?)),
+    }
+}
+
+/// The row of the built-in that such a head and suffixes call.
+pub fn find_row(
+    outside: &Outside,
+    locals: &Binders,
+    head: &Expr,
+    suffixes: &[Suffix],
+) -> Result<Option<u32>, NoMemory>
+    ensures { IfOk result (λ row. row ≡ called_row (seen outside.now) locals.now (expr_tree head.now) (suffix_trees suffixes.now)) }
+{
+    match head {
+        Expr::Use { name, .. } => match suffixes.first() {
+            Some(Suffix::Apply { .. }) => row_of_name(outside, locals, name),
+            _ => Ok(None),
+        },
+        _ => Ok(None),
+    }
+}

@@ -1,0 +1,411 @@
+use super::*;
+use obq_base::{
+    Bind, Block, CodeNo, Expr, Field, FieldExpr, Flags, Item, Name, Node, Proc, RecBind, Slot,
+    SourceCode, Suffix,
+};
+use sqlite_items::{Boxed, Items};
+use std::alloc::{AllocError, Global};
+use std::test::Fail;
+
+fn name(alloc: Global, text: &str) -> Result<Name, AllocError> {
+    Ok(Name::new(Vec::from_slice(alloc, text.as_bytes())?))
+}
+
+fn use_at(alloc: Global, text: &str, place: u32) -> Result<Expr, AllocError> {
+    Ok(Expr::Use {
+        name: name(alloc, text)?,
+        place,
+    })
+}
+
+/// An item that is an occurrence of a name.
+fn mention(alloc: Global, text: &str) -> Result<Item, AllocError> {
+    Ok(Item::Plain(use_at(alloc, text, 0)?))
+}
+
+fn number() -> Expr {
+    Expr::Int { value: 1, place: 0 }
+}
+
+fn bind(alloc: Global, text: &str, value: Expr) -> Result<Bind, AllocError> {
+    Ok(Bind {
+        name: name(alloc, text)?,
+        value,
+        place: 0,
+    })
+}
+
+fn let_one(alloc: Global, text: &str, value: Expr) -> Result<Item, AllocError> {
+    Ok(Item::Let {
+        binds: Items::from_vec(vec![in alloc; bind(alloc, text, value)?]?),
+        place: 0,
+    })
+}
+
+fn assign(alloc: Global, text: &str, place: u32) -> Result<Item, AllocError> {
+    Ok(Item::Assign {
+        name: name(alloc, text)?,
+        value: number(),
+        place,
+    })
+}
+
+fn block(items: Vec<Item>) -> Block {
+    Block {
+        items: Items::from_vec(items),
+        place: 0,
+    }
+}
+
+fn procedure(alloc: Global, parameters: &[&str], items: Vec<Item>) -> Result<Proc, AllocError> {
+    let mut names = Vec::new(alloc);
+    for parameter in parameters {
+        names.push(name(alloc, parameter)?)?;
+    }
+    Ok(Proc {
+        parameters: Items::from_vec(names),
+        body: block(items),
+        place: 0,
+    })
+}
+
+fn closure(alloc: Global, parameters: &[&str], items: Vec<Item>) -> Result<Expr, AllocError> {
+    Ok(Expr::Procedure(Boxed::new(alloc, procedure(alloc, parameters, items)?)?))
+}
+
+fn member(alloc: Global, text: &str, procedure: Proc) -> Result<RecBind, AllocError> {
+    Ok(RecBind {
+        name: name(alloc, text)?,
+        procedure,
+        place: 0,
+    })
+}
+
+fn call(alloc: Global, head: Expr, arguments: Vec<Expr>) -> Result<Expr, AllocError> {
+    let suffix = Suffix::Apply {
+        arguments: Items::from_vec(arguments),
+        place: 0,
+    };
+    suffixed(alloc, head, suffix)
+}
+
+fn suffixed(alloc: Global, head: Expr, suffix: Suffix) -> Result<Expr, AllocError> {
+    Ok(Expr::Suffixed {
+        head: Boxed::new(alloc, head)?,
+        suffixes: Items::from_vec(vec![in alloc; suffix]?),
+    })
+}
+
+fn object(alloc: Global, text: &str, body: FieldExpr) -> Result<Expr, AllocError> {
+    let field = Field {
+        name: name(alloc, text)?,
+        body,
+        place: 0,
+    };
+    Ok(Expr::Object {
+        flags: Flags {
+            protected: false,
+            serialized: false,
+        },
+        fields: Items::from_vec(vec![in alloc; field]?),
+        place: 0,
+    })
+}
+
+fn show_slot(out: &mut String, slot: Slot) -> Result<(), AllocError> {
+    match slot {
+        Slot::Local(k) => write!(out, "L{k} "),
+        Slot::Captured(k) => write!(out, "C{k} "),
+        Slot::Member(k) => write!(out, "M{k} "),
+        Slot::Stdout(k) => write!(out, "S{k} "),
+    }
+}
+
+fn show_from(out: &mut String, code: CodeNo, from: &Items<Slot>) -> Result<(), AllocError> {
+    let n = code.n;
+    write!(out, "code {n} from ")?;
+    for slot in from.as_slice() {
+        show_slot(out, *slot)?;
+    }
+    Ok(())
+}
+
+/// The slots of a node, where it has some.
+fn show_node(out: &mut String, node: &Node) -> Result<(), AllocError> {
+    match node {
+        Node::Use { slot } => show_slot(out, *slot),
+        Node::Assign { slot } => {
+            out.push_str("assign ")?;
+            show_slot(out, *slot)
+        }
+        Node::Builtin { row, args } => write!(out, "row {row} of {args} "),
+        Node::Proc { code, from } | Node::Meth { code, from } => show_from(out, *code, from),
+        Node::LetRec { codes, from } => {
+            for code in codes.as_slice() {
+                show_from(out, *code, from)?;
+            }
+            Ok(())
+        }
+        _ => Ok(()),
+    }
+}
+
+fn show_codes(out: &mut String, made: &SourceCode) -> Result<(), AllocError> {
+    for code in made.codes.as_slice() {
+        let params = code.params;
+        let captures = code.captures;
+        write!(out, "{params}/{captures}: ")?;
+        for node in code.nodes.as_slice() {
+            show_node(out, node)?;
+        }
+    }
+    let main = made.main.n;
+    write!(out, "main {main}")
+}
+
+/// The slots in the codes of a block of source 7, or why it has none.
+fn shown(alloc: Global, items: Vec<Item>) -> Result<String, AllocError> {
+    let mut out = String::new(alloc);
+    match resolve(alloc, 7, &block(items)) {
+        Ok(made) => show_codes(&mut out, &made)?,
+        Err(ScopeRefused::Unbound { name, place }) => {
+            for byte in name.as_bytes() {
+                out.push(*byte as char)?;
+            }
+            write!(out, " at {place}")?;
+        }
+        Err(ScopeRefused::NoMemory) => out.push_str("no memory")?,
+    }
+    Ok(out)
+}
+
+/// `let x = 1; let x = x; x`
+fn shadowed_let(alloc: Global) -> Result<Vec<Item>, AllocError> {
+    Ok(vec![in alloc;
+        let_one(alloc, "x", number())?,
+        let_one(alloc, "x", use_at(alloc, "x", 0)?)?,
+        mention(alloc, "x")?,
+    ]?)
+}
+
+/// `var a = 1, b = a; b`
+fn later_binds(alloc: Global) -> Result<Vec<Item>, AllocError> {
+    let binds = vec![in alloc;
+        bind(alloc, "a", number())?,
+        bind(alloc, "b", use_at(alloc, "a", 0)?)?,
+    ]?;
+    let item = Item::Var {
+        binds: Items::from_vec(binds),
+        place: 0,
+    };
+    Ok(vec![in alloc; item, mention(alloc, "b")?]?)
+}
+
+/// `let v = 1; for v = v to v do v end; v`
+fn counting(alloc: Global) -> Result<Vec<Item>, AllocError> {
+    let body = block(vec![in alloc; mention(alloc, "v")?]?);
+    let loop_item = Item::Plain(Expr::For {
+        name: name(alloc, "v")?,
+        from: Boxed::new(alloc, use_at(alloc, "v", 0)?)?,
+        to: Boxed::new(alloc, use_at(alloc, "v", 0)?)?,
+        body,
+        place: 0,
+    });
+    Ok(vec![in alloc;
+        let_one(alloc, "v", number())?,
+        loop_item,
+        mention(alloc, "v")?,
+    ]?)
+}
+
+/// `let v = 1; foreach v in v do v end; v`
+fn each(alloc: Global) -> Result<Vec<Item>, AllocError> {
+    let body = block(vec![in alloc; mention(alloc, "v")?]?);
+    let loop_item = Item::Plain(Expr::Foreach {
+        name: name(alloc, "v")?,
+        array: Boxed::new(alloc, use_at(alloc, "v", 0)?)?,
+        body,
+        place: 0,
+    });
+    Ok(vec![in alloc;
+        let_one(alloc, "v", number())?,
+        loop_item,
+        mention(alloc, "v")?,
+    ]?)
+}
+
+/// `let x = 1; let rec f = proc() g; x end, g = proc(f) f; proc() g end end; f`
+fn group(alloc: Global) -> Result<Vec<Item>, AllocError> {
+    let f = procedure(
+        alloc,
+        &[],
+        vec![in alloc; mention(alloc, "g")?, mention(alloc, "x")?]?,
+    )?;
+    let inner = closure(alloc, &[], vec![in alloc; mention(alloc, "g")?]?)?;
+    let g = procedure(
+        alloc,
+        &["f"],
+        vec![in alloc; mention(alloc, "f")?, Item::Plain(inner)]?,
+    )?;
+    let item = Item::LetRec {
+        binds: Items::from_vec(vec![in alloc; member(alloc, "f", f)?, member(alloc, "g", g)?]?),
+        place: 0,
+    };
+    Ok(vec![in alloc; let_one(alloc, "x", number())?, item, mention(alloc, "f")?]?)
+}
+
+/// `f; let rec f = proc() f end`, with f at 3
+fn before_group(alloc: Global) -> Result<Vec<Item>, AllocError> {
+    let f = procedure(alloc, &[], vec![in alloc; mention(alloc, "f")?]?)?;
+    let item = Item::LetRec {
+        binds: Items::from_vec(vec![in alloc; member(alloc, "f", f)?]?),
+        place: 0,
+    };
+    Ok(vec![in alloc; Item::Plain(use_at(alloc, "f", 3)?), item]?)
+}
+
+/// `let x = 1; proc(y) proc(z, z) x; y; z; x end end`
+fn two_levels(alloc: Global) -> Result<Vec<Item>, AllocError> {
+    let items = vec![in alloc;
+        mention(alloc, "x")?,
+        mention(alloc, "y")?,
+        mention(alloc, "z")?,
+        mention(alloc, "x")?,
+    ]?;
+    let inner = closure(alloc, &["z", "z"], items)?;
+    let outer = closure(alloc, &["y"], vec![in alloc; Item::Plain(inner)]?)?;
+    Ok(vec![in alloc; let_one(alloc, "x", number())?, Item::Plain(outer)]?)
+}
+
+/// `let x = 1; { m => meth(s) s; x end }; { x => alias y of x end }.z`
+fn fields(alloc: Global) -> Result<Vec<Item>, AllocError> {
+    let method = procedure(
+        alloc,
+        &["s"],
+        vec![in alloc; mention(alloc, "s")?, mention(alloc, "x")?]?,
+    )?;
+    let first = object(alloc, "m", FieldExpr::Method(method))?;
+    let alias = FieldExpr::Alias {
+        name: name(alloc, "y")?,
+        target: use_at(alloc, "x", 0)?,
+        place: 0,
+    };
+    let select = Suffix::Select {
+        name: name(alloc, "z")?,
+        place: 0,
+    };
+    let second = suffixed(alloc, object(alloc, "x", alias)?, select)?;
+    Ok(vec![in alloc;
+        let_one(alloc, "x", number())?,
+        Item::Plain(first),
+        Item::Plain(second),
+    ]?)
+}
+
+/// `not(stdout)`, or with `not` bound before
+fn calls(alloc: Global, bound: bool) -> Result<Vec<Item>, AllocError> {
+    let mut items = Vec::new(alloc);
+    if bound {
+        items.push(let_one(alloc, "not", number())?)?;
+    }
+    let arguments = vec![in alloc; use_at(alloc, "stdout", 4)?]?;
+    items.push(Item::Plain(call(alloc, use_at(alloc, "not", 0)?, arguments)?))?;
+    Ok(items)
+}
+
+/// `not(not)`, with the second at 4
+fn passed(alloc: Global) -> Result<Vec<Item>, AllocError> {
+    let arguments = vec![in alloc; use_at(alloc, "not", 4)?]?;
+    Ok(vec![in alloc; Item::Plain(call(alloc, use_at(alloc, "not", 0)?, arguments)?)]?)
+}
+
+/// `(not.x)(1)`, with `not` at 1
+fn selected(alloc: Global) -> Result<Vec<Item>, AllocError> {
+    let select = Suffix::Select {
+        name: name(alloc, "x")?,
+        place: 0,
+    };
+    let head = suffixed(alloc, use_at(alloc, "not", 1)?, select)?;
+    Ok(vec![in alloc; Item::Plain(call(alloc, head, vec![in alloc; number()]?)?)]?)
+}
+
+/// `proc() a end; b`, with a and b at these places
+fn two_unbound(alloc: Global, a: u32, b: u32) -> Result<Vec<Item>, AllocError> {
+    let inner = closure(
+        alloc,
+        &[],
+        vec![in alloc; Item::Plain(use_at(alloc, "a", a)?)]?,
+    )?;
+    Ok(vec![in alloc; Item::Plain(inner), Item::Plain(use_at(alloc, "b", b)?)]?)
+}
+
+#[test]
+fn binders_cover(rt: HostRuntime) -> Result<(), Fail> {
+    let alloc = rt.alloc();
+    assert_eq!(rt;
+        shown(alloc, shadowed_let(alloc)?)?.as_str(),
+        "0/0: L0 L1 main 0"
+    );
+    assert_eq!(rt;
+        shown(alloc, later_binds(alloc)?)?.as_str(),
+        "0/0: L0 L1 main 0"
+    );
+    assert_eq!(rt;
+        shown(alloc, counting(alloc)?)?.as_str(),
+        "0/0: L0 L0 L1 L0 main 0"
+    );
+    assert_eq!(rt;
+        shown(alloc, each(alloc)?)?.as_str(),
+        "0/0: L0 L1 L0 main 0"
+    );
+    assert_eq!(rt;
+        shown(alloc, group(alloc)?)?.as_str(),
+        "0/1: M1 C0 0/1: C0 1/1: L0 code 1 from M1 0/0: code 0 from L0 code 2 from L0 L1 main 3"
+    );
+    assert_eq!(rt;
+        shown(alloc, two_levels(alloc)?)?.as_str(),
+        "2/2: C0 C1 L1 C0 1/1: code 0 from C0 L0 0/0: code 1 from L0 main 2"
+    );
+    assert_eq!(rt;
+        shown(alloc, fields(alloc)?)?.as_str(),
+        "1/1: L0 C0 0/0: code 0 from L0 L0 main 1"
+    );
+    Ok(())
+}
+
+#[test]
+fn names_without_a_binder(rt: HostRuntime) -> Result<(), Fail> {
+    let alloc = rt.alloc();
+    assert_eq!(rt;
+        shown(alloc, calls(alloc, false)?)?.as_str(),
+        "0/0: row 13 of 1 S7 main 0"
+    );
+    assert_eq!(rt;
+        shown(alloc, calls(alloc, true)?)?.as_str(),
+        "0/0: L0 S7 main 0"
+    );
+    assert_eq!(rt; shown(alloc, passed(alloc)?)?.as_str(), "not at 4");
+    assert_eq!(rt; shown(alloc, selected(alloc)?)?.as_str(), "not at 1");
+    assert_eq!(rt;
+        shown(alloc, vec![in alloc; assign(alloc, "stdout", 0)?]?)?.as_str(),
+        "0/0: assign S7 main 0"
+    );
+    assert_eq!(rt;
+        shown(alloc, vec![in alloc; assign(alloc, "not", 2)?]?)?.as_str(),
+        "not at 2"
+    );
+    assert_eq!(rt;
+        shown(alloc, vec![in alloc; assign(alloc, "x", 0)?]?)?.as_str(),
+        "x at 0"
+    );
+    assert_eq!(rt; shown(alloc, before_group(alloc)?)?.as_str(), "f at 3");
+    assert_eq!(rt;
+        shown(alloc, two_unbound(alloc, 7, 15)?)?.as_str(),
+        "a at 7"
+    );
+    assert_eq!(rt;
+        shown(alloc, two_unbound(alloc, 15, 7)?)?.as_str(),
+        "b at 7"
+    );
+    Ok(())
+}
