@@ -11,6 +11,18 @@ fn name(alloc: Global, text: &str) -> Result<Name, AllocError> {
     Ok(Name::new(Vec::from_slice(alloc, text.as_bytes())?))
 }
 
+fn one<T: Drop>(alloc: Global, item: T) -> Result<Vec<T>, AllocError> {
+    let mut items = Vec::new(alloc);
+    items.push(item)?;
+    Ok(items)
+}
+
+fn two<T: Drop>(alloc: Global, first: T, second: T) -> Result<Vec<T>, AllocError> {
+    let mut items = one(alloc, first)?;
+    items.push(second)?;
+    Ok(items)
+}
+
 fn use_at(alloc: Global, text: &str, place: u32) -> Result<Expr, AllocError> {
     Ok(Expr::Use {
         name: name(alloc, text)?,
@@ -37,7 +49,7 @@ fn bind(alloc: Global, text: &str, value: Expr) -> Result<Bind, AllocError> {
 
 fn let_one(alloc: Global, text: &str, value: Expr) -> Result<Item, AllocError> {
     Ok(Item::Let {
-        binds: Items::from_vec(vec![in alloc; bind(alloc, text, value)?]?),
+        binds: Items::from_vec(one(alloc, bind(alloc, text, value)?)?),
         place: 0,
     })
 }
@@ -92,7 +104,7 @@ fn call(alloc: Global, head: Expr, arguments: Vec<Expr>) -> Result<Expr, AllocEr
 fn suffixed(alloc: Global, head: Expr, suffix: Suffix) -> Result<Expr, AllocError> {
     Ok(Expr::Suffixed {
         head: Boxed::new(alloc, head)?,
-        suffixes: Items::from_vec(vec![in alloc; suffix]?),
+        suffixes: Items::from_vec(one(alloc, suffix)?),
     })
 }
 
@@ -107,7 +119,7 @@ fn object(alloc: Global, text: &str, body: FieldExpr) -> Result<Expr, AllocError
             protected: false,
             serialized: false,
         },
-        fields: Items::from_vec(vec![in alloc; field]?),
+        fields: Items::from_vec(one(alloc, field)?),
         place: 0,
     })
 }
@@ -181,162 +193,181 @@ fn shown(alloc: Global, items: Vec<Item>) -> Result<String, AllocError> {
 
 /// `let x = 1; let x = x; x`
 fn shadowed_let(alloc: Global) -> Result<Vec<Item>, AllocError> {
-    Ok(vec![in alloc;
+    let mut items = two(
+        alloc,
         let_one(alloc, "x", number())?,
         let_one(alloc, "x", use_at(alloc, "x", 0)?)?,
-        mention(alloc, "x")?,
-    ]?)
+    )?;
+    items.push(mention(alloc, "x")?)?;
+    Ok(items)
+}
+
+/// `var a = 1, b = a`
+fn var_two(alloc: Global) -> Result<Item, AllocError> {
+    let second = bind(alloc, "b", use_at(alloc, "a", 0)?)?;
+    let binds = two(alloc, bind(alloc, "a", number())?, second)?;
+    Ok(Item::Var {
+        binds: Items::from_vec(binds),
+        place: 0,
+    })
 }
 
 /// `var a = 1, b = a; b`
 fn later_binds(alloc: Global) -> Result<Vec<Item>, AllocError> {
-    let binds = vec![in alloc;
-        bind(alloc, "a", number())?,
-        bind(alloc, "b", use_at(alloc, "a", 0)?)?,
-    ]?;
-    let item = Item::Var {
-        binds: Items::from_vec(binds),
-        place: 0,
-    };
-    Ok(vec![in alloc; item, mention(alloc, "b")?]?)
+    two(alloc, var_two(alloc)?, mention(alloc, "b")?)
+}
+
+/// `let v = 1`, this item, `v`
+fn around(alloc: Global, item: Item) -> Result<Vec<Item>, AllocError> {
+    let mut items = two(alloc, let_one(alloc, "v", number())?, item)?;
+    items.push(mention(alloc, "v")?)?;
+    Ok(items)
 }
 
 /// `let v = 1; for v = v to v do v end; v`
 fn counting(alloc: Global) -> Result<Vec<Item>, AllocError> {
-    let body = block(vec![in alloc; mention(alloc, "v")?]?);
-    let loop_item = Item::Plain(Expr::For {
+    let from = Boxed::new(alloc, use_at(alloc, "v", 0)?)?;
+    let to = Boxed::new(alloc, use_at(alloc, "v", 0)?)?;
+    let body = block(one(alloc, mention(alloc, "v")?)?);
+    let item = Item::Plain(Expr::For {
         name: name(alloc, "v")?,
-        from: Boxed::new(alloc, use_at(alloc, "v", 0)?)?,
-        to: Boxed::new(alloc, use_at(alloc, "v", 0)?)?,
+        from,
+        to,
         body,
         place: 0,
     });
-    Ok(vec![in alloc;
-        let_one(alloc, "v", number())?,
-        loop_item,
-        mention(alloc, "v")?,
-    ]?)
+    around(alloc, item)
 }
 
 /// `let v = 1; foreach v in v do v end; v`
 fn each(alloc: Global) -> Result<Vec<Item>, AllocError> {
-    let body = block(vec![in alloc; mention(alloc, "v")?]?);
-    let loop_item = Item::Plain(Expr::Foreach {
+    let array = Boxed::new(alloc, use_at(alloc, "v", 0)?)?;
+    let body = block(one(alloc, mention(alloc, "v")?)?);
+    let item = Item::Plain(Expr::Foreach {
         name: name(alloc, "v")?,
-        array: Boxed::new(alloc, use_at(alloc, "v", 0)?)?,
+        array,
         body,
         place: 0,
     });
-    Ok(vec![in alloc;
-        let_one(alloc, "v", number())?,
-        loop_item,
-        mention(alloc, "v")?,
-    ]?)
+    around(alloc, item)
+}
+
+/// `f = proc() g; x end`
+fn member_f(alloc: Global) -> Result<RecBind, AllocError> {
+    let items = two(alloc, mention(alloc, "g")?, mention(alloc, "x")?)?;
+    member(alloc, "f", procedure(alloc, &[], items)?)
+}
+
+/// `g = proc(f) f; proc() g end end`
+fn member_g(alloc: Global) -> Result<RecBind, AllocError> {
+    let inner = closure(alloc, &[], one(alloc, mention(alloc, "g")?)?)?;
+    let items = two(alloc, mention(alloc, "f")?, Item::Plain(inner))?;
+    member(alloc, "g", procedure(alloc, &["f"], items)?)
+}
+
+fn let_rec(binds: Vec<RecBind>) -> Item {
+    Item::LetRec {
+        binds: Items::from_vec(binds),
+        place: 0,
+    }
 }
 
 /// `let x = 1; let rec f = proc() g; x end, g = proc(f) f; proc() g end end; f`
 fn group(alloc: Global) -> Result<Vec<Item>, AllocError> {
-    let f = procedure(
-        alloc,
-        &[],
-        vec![in alloc; mention(alloc, "g")?, mention(alloc, "x")?]?,
-    )?;
-    let inner = closure(alloc, &[], vec![in alloc; mention(alloc, "g")?]?)?;
-    let g = procedure(
-        alloc,
-        &["f"],
-        vec![in alloc; mention(alloc, "f")?, Item::Plain(inner)]?,
-    )?;
-    let item = Item::LetRec {
-        binds: Items::from_vec(vec![in alloc; member(alloc, "f", f)?, member(alloc, "g", g)?]?),
-        place: 0,
-    };
-    Ok(vec![in alloc; let_one(alloc, "x", number())?, item, mention(alloc, "f")?]?)
+    let item = let_rec(two(alloc, member_f(alloc)?, member_g(alloc)?)?);
+    let mut items = two(alloc, let_one(alloc, "x", number())?, item)?;
+    items.push(mention(alloc, "f")?)?;
+    Ok(items)
 }
 
 /// `f; let rec f = proc() f end`, with f at 3
 fn before_group(alloc: Global) -> Result<Vec<Item>, AllocError> {
-    let f = procedure(alloc, &[], vec![in alloc; mention(alloc, "f")?]?)?;
-    let item = Item::LetRec {
-        binds: Items::from_vec(vec![in alloc; member(alloc, "f", f)?]?),
-        place: 0,
-    };
-    Ok(vec![in alloc; Item::Plain(use_at(alloc, "f", 3)?), item]?)
+    let body = one(alloc, mention(alloc, "f")?)?;
+    let f = member(alloc, "f", procedure(alloc, &[], body)?)?;
+    let item = let_rec(one(alloc, f)?);
+    two(alloc, Item::Plain(use_at(alloc, "f", 3)?), item)
+}
+
+/// `proc(z, z) x; y; z; x end`
+fn inner_level(alloc: Global) -> Result<Item, AllocError> {
+    let mut items = two(alloc, mention(alloc, "x")?, mention(alloc, "y")?)?;
+    items.push(mention(alloc, "z")?)?;
+    items.push(mention(alloc, "x")?)?;
+    Ok(Item::Plain(closure(alloc, &["z", "z"], items)?))
 }
 
 /// `let x = 1; proc(y) proc(z, z) x; y; z; x end end`
 fn two_levels(alloc: Global) -> Result<Vec<Item>, AllocError> {
-    let items = vec![in alloc;
-        mention(alloc, "x")?,
-        mention(alloc, "y")?,
-        mention(alloc, "z")?,
-        mention(alloc, "x")?,
-    ]?;
-    let inner = closure(alloc, &["z", "z"], items)?;
-    let outer = closure(alloc, &["y"], vec![in alloc; Item::Plain(inner)]?)?;
-    Ok(vec![in alloc; let_one(alloc, "x", number())?, Item::Plain(outer)]?)
+    let outer = closure(alloc, &["y"], one(alloc, inner_level(alloc)?)?)?;
+    two(alloc, let_one(alloc, "x", number())?, Item::Plain(outer))
+}
+
+/// `{ m => meth(s) s; x end }`
+fn with_method(alloc: Global) -> Result<Item, AllocError> {
+    let items = two(alloc, mention(alloc, "s")?, mention(alloc, "x")?)?;
+    let method = procedure(alloc, &["s"], items)?;
+    Ok(Item::Plain(object(alloc, "m", FieldExpr::Method(method))?))
+}
+
+fn select(alloc: Global, head: Expr, text: &str) -> Result<Expr, AllocError> {
+    let suffix = Suffix::Select {
+        name: name(alloc, text)?,
+        place: 0,
+    };
+    suffixed(alloc, head, suffix)
+}
+
+/// `{ x => alias y of x end }.z`
+fn with_alias(alloc: Global) -> Result<Item, AllocError> {
+    let target = use_at(alloc, "x", 0)?;
+    let alias = FieldExpr::Alias {
+        name: name(alloc, "y")?,
+        target,
+        place: 0,
+    };
+    Ok(Item::Plain(select(alloc, object(alloc, "x", alias)?, "z")?))
 }
 
 /// `let x = 1; { m => meth(s) s; x end }; { x => alias y of x end }.z`
 fn fields(alloc: Global) -> Result<Vec<Item>, AllocError> {
-    let method = procedure(
-        alloc,
-        &["s"],
-        vec![in alloc; mention(alloc, "s")?, mention(alloc, "x")?]?,
-    )?;
-    let first = object(alloc, "m", FieldExpr::Method(method))?;
-    let alias = FieldExpr::Alias {
-        name: name(alloc, "y")?,
-        target: use_at(alloc, "x", 0)?,
-        place: 0,
-    };
-    let select = Suffix::Select {
-        name: name(alloc, "z")?,
-        place: 0,
-    };
-    let second = suffixed(alloc, object(alloc, "x", alias)?, select)?;
-    Ok(vec![in alloc;
-        let_one(alloc, "x", number())?,
-        Item::Plain(first),
-        Item::Plain(second),
-    ]?)
+    let mut items = two(alloc, let_one(alloc, "x", number())?, with_method(alloc)?)?;
+    items.push(with_alias(alloc)?)?;
+    Ok(items)
 }
 
 /// `not(stdout)`, or with `not` bound before
 fn calls(alloc: Global, bound: bool) -> Result<Vec<Item>, AllocError> {
-    let mut items = Vec::new(alloc);
+    let arguments = one(alloc, use_at(alloc, "stdout", 4)?)?;
+    let item = Item::Plain(call(alloc, use_at(alloc, "not", 0)?, arguments)?);
     if bound {
-        items.push(let_one(alloc, "not", number())?)?;
+        return two(alloc, let_one(alloc, "not", number())?, item);
     }
-    let arguments = vec![in alloc; use_at(alloc, "stdout", 4)?]?;
-    items.push(Item::Plain(call(alloc, use_at(alloc, "not", 0)?, arguments)?))?;
-    Ok(items)
+    one(alloc, item)
 }
 
 /// `not(not)`, with the second at 4
 fn passed(alloc: Global) -> Result<Vec<Item>, AllocError> {
-    let arguments = vec![in alloc; use_at(alloc, "not", 4)?]?;
-    Ok(vec![in alloc; Item::Plain(call(alloc, use_at(alloc, "not", 0)?, arguments)?)]?)
+    let arguments = one(alloc, use_at(alloc, "not", 4)?)?;
+    let value = call(alloc, use_at(alloc, "not", 0)?, arguments)?;
+    one(alloc, Item::Plain(value))
 }
 
 /// `(not.x)(1)`, with `not` at 1
 fn selected(alloc: Global) -> Result<Vec<Item>, AllocError> {
-    let select = Suffix::Select {
-        name: name(alloc, "x")?,
-        place: 0,
-    };
-    let head = suffixed(alloc, use_at(alloc, "not", 1)?, select)?;
-    Ok(vec![in alloc; Item::Plain(call(alloc, head, vec![in alloc; number()]?)?)]?)
+    let head = select(alloc, use_at(alloc, "not", 1)?, "x")?;
+    let value = call(alloc, head, one(alloc, number())?)?;
+    one(alloc, Item::Plain(value))
 }
 
 /// `proc() a end; b`, with a and b at these places
 fn two_unbound(alloc: Global, a: u32, b: u32) -> Result<Vec<Item>, AllocError> {
-    let inner = closure(
+    let items = one(alloc, Item::Plain(use_at(alloc, "a", a)?))?;
+    let inner = closure(alloc, &[], items)?;
+    two(
         alloc,
-        &[],
-        vec![in alloc; Item::Plain(use_at(alloc, "a", a)?)]?,
-    )?;
-    Ok(vec![in alloc; Item::Plain(inner), Item::Plain(use_at(alloc, "b", b)?)]?)
+        Item::Plain(inner),
+        Item::Plain(use_at(alloc, "b", b)?),
+    )
 }
 
 #[test]
@@ -387,15 +418,15 @@ fn names_without_a_binder(rt: HostRuntime) -> Result<(), Fail> {
     assert_eq!(rt; shown(alloc, passed(alloc)?)?.as_str(), "not at 4");
     assert_eq!(rt; shown(alloc, selected(alloc)?)?.as_str(), "not at 1");
     assert_eq!(rt;
-        shown(alloc, vec![in alloc; assign(alloc, "stdout", 0)?]?)?.as_str(),
+        shown(alloc, one(alloc, assign(alloc, "stdout", 0)?)?)?.as_str(),
         "0/0: assign S7 main 0"
     );
     assert_eq!(rt;
-        shown(alloc, vec![in alloc; assign(alloc, "not", 2)?]?)?.as_str(),
+        shown(alloc, one(alloc, assign(alloc, "not", 2)?)?)?.as_str(),
         "not at 2"
     );
     assert_eq!(rt;
-        shown(alloc, vec![in alloc; assign(alloc, "x", 0)?]?)?.as_str(),
+        shown(alloc, one(alloc, assign(alloc, "x", 0)?)?)?.as_str(),
         "x at 0"
     );
     assert_eq!(rt; shown(alloc, before_group(alloc)?)?.as_str(), "f at 3");
