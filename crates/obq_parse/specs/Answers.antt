@@ -2,8 +2,8 @@
 use Rattle.std.specs.Prelude.{List, Result, Ok, Err}
 use Rattle.obq_base.specs.declared.tokens.Token.{Token}
 use Rattle.obq_base.specs.declared.trees.Block.{Block}
-use Rattle.obq_parse.specs.declared.parser.ParseRefused.{ParseRefused}
-use Rattle.obq_parse.specs.declared.parser.ParseRefused.TheVariants.{Syntax, NoMemory}
+use Rattle.obq_parse.specs.declared.program.ParseRefused.{ParseRefused}
+use Rattle.obq_parse.specs.declared.program.ParseRefused.TheVariants.{Syntax, NoMemory}
 use Rattle.obq_model.specs.Grammar.{Derives}
 use Rattle.obq_model.specs.Syntax.{IsFirstFault}
 

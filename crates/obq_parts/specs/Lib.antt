@@ -1,0 +1,5 @@
+pub mod Closed
+pub mod Objects
+pub mod Openings
+pub mod Reads
+pub mod Targets

@@ -1,0 +1,59 @@
+//! The words that open an expression of several parts.
+
+ghost use Rattle.std.specs.Prelude.{◌≡◌, ◌∷◌, ◌<◌, IfSome, MatchOption, length};
+ghost use Rattle.obq_model.specs.Nodes.{next, token};
+ghost use Rattle.obq_grammar.specs.Follow.{among, No};
+ghost use Rattle.obq_parts.specs.Openings.{opening_kind, openings};
+
+use obq_base::{Token, TokenKind};
+
+/// A word that opens an expression of several parts.
+#[derive(Clone, Copy, Debug, PartialEq, Eq)]
+pub enum Opening {
+    Clone,
+    For,
+    Foreach,
+    If,
+    Loop,
+    Procedure,
+    Raise,
+    Redirect,
+    Try,
+    Watch,
+    Paren,
+    Bracket,
+    Brace,
+}
+
+fn opening_of(kind: &TokenKind) -> Option<Opening>
+    ensures { MatchOption result (No (among openings kind.now)) (λ o. kind.now ≡ opening_kind o) }
+{
+    match kind {
+        TokenKind::Keyword(2) => Some(Opening::Clone),
+        TokenKind::Keyword(11) => Some(Opening::For),
+        TokenKind::Keyword(12) => Some(Opening::Foreach),
+        TokenKind::Keyword(13) => Some(Opening::If),
+        TokenKind::Keyword(18) => Some(Opening::Loop),
+        TokenKind::Keyword(23) => Some(Opening::Procedure),
+        TokenKind::Keyword(25) => Some(Opening::Raise),
+        TokenKind::Keyword(27) => Some(Opening::Redirect),
+        TokenKind::Keyword(32) => Some(Opening::Try),
+        TokenKind::Keyword(35) => Some(Opening::Watch),
+        TokenKind::Symbol(2) => Some(Opening::Paren),
+        TokenKind::Symbol(18) => Some(Opening::Bracket),
+        TokenKind::Symbol(20) => Some(Opening::Brace),
+        _ => None,
+    }
+}
+
+/// A word that opens an expression, its place and the tokens behind it.
+pub fn take_opening(tokens: &[Token]) -> Option<(Opening, u32, &[Token])>
+    ensures found { MatchOption result (No (among openings (next tokens.now))) (λ found. tokens.now ≡ token (opening_kind found.0) found.1 ∷ found.2.now) }
+    ensures shorter { IfSome result (λ found. length found.2.now < length tokens.now) }
+{
+    let (token, rest) = tokens.split_first()?;
+    match opening_of(&token.kind) {
+        Some(opening) => Some((opening, token.place, rest)),
+        None => None,
+    }
+}

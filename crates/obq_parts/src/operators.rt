@@ -1,0 +1,63 @@
+//! Operators.
+
+ghost use Rattle.std.specs.Prelude.{◌≡◌, ◌<◌, ◌∷◌, IfSome, MatchOption, length};
+ghost use Rattle.obq_model.specs.Grammar.{Operates};
+ghost use Rattle.obq_model.specs.Nodes.{next, token};
+ghost use Rattle.obq_grammar.specs.Follow.{among, operators, No};
+ghost use Rattle.obq_base.specs.declared.tokens.TokenKind.TheVariants as kind;
+ghost use Rattle.obq_parts.specs.Reads.{TakesOperator};
+
+use obq_base::{Operator, Token, TokenKind};
+
+fn symbol_operator(level: u32, row: u32) -> Option<Operator>
+    ensures { MatchOption result (No (among (operators level) (kind.Symbol row))) (λ o. Operates level (kind.Symbol row) o) }
+{
+    match (level, row) {
+        (0, 4) => Some(Operator::Multiply),
+        (0, 9) => Some(Operator::Divide),
+        (0, 0) => Some(Operator::Remainder),
+        (1, 5) => Some(Operator::Add),
+        (1, 7) => Some(Operator::Subtract),
+        (1, 1) => Some(Operator::Join),
+        (2, 12) => Some(Operator::Less),
+        (2, 13) => Some(Operator::LessEqual),
+        (2, 16) => Some(Operator::Greater),
+        (2, 17) => Some(Operator::GreaterEqual),
+        _ => None,
+    }
+}
+
+fn keyword_operator(level: u32, row: u32) -> Option<Operator>
+    ensures { MatchOption result (No (among (operators level) (kind.Keyword row))) (λ o. Operates level (kind.Keyword row) o) }
+{
+    match (level, row) {
+        (2, 15) => Some(Operator::Is),
+        (2, 16) => Some(Operator::IsNot),
+        (3, 1) => Some(Operator::Andif),
+        (4, 22) => Some(Operator::Orif),
+        _ => None,
+    }
+}
+
+/// The operator of a level that a token is.
+fn operator_of(level: u32, kind: &TokenKind) -> Option<Operator>
+    ensures { MatchOption result (No (among (operators level) kind.now)) (λ o. Operates level kind.now o) }
+{
+    match kind {
+        TokenKind::Symbol(row) => symbol_operator(level, *row),
+        TokenKind::Keyword(row) => keyword_operator(level, *row),
+        _ => None,
+    }
+}
+
+/// An operator of a level, its place and the tokens behind it.
+pub fn take_operator(level: u32, tokens: &[Token]) -> Option<(Operator, u32, &[Token])>
+    ensures found { TakesOperator level tokens.now result }
+    ensures shorter { IfSome result (λ found. length found.2.now < length tokens.now) }
+{
+    let (token, rest) = tokens.split_first()?;
+    match operator_of(level, &token.kind) {
+        Some(operator) => Some((operator, token.place, rest)),
+        None => None,
+    }
+}
