@@ -1,4 +1,4 @@
-//! `obliq`: runs Obliq sources. The words behind the program's name say what it does.
+//! `obliq`: checks and runs Obliq sources. The words behind the program's name say what it does.
 #![tactic(auto)]
 
 use obq_base::NoMemory;

@@ -13,10 +13,10 @@ use Rattle.obq_model.specs.PutTexts.{AreGroups, IsPutTexts, StopsAt}
 use Rattle.obq_model.specs.Sources.{AreAccepted, IsAccepted, IsFault, IsFirstRefused, here, later}
 use Rattle.obq_run.specs.declared.ends.Cause.{Cause}
 use Rattle.obq_run.specs.declared.ends.Cause.TheVariants.{Checked, NoMemory, NotYet, Ran, ReadFault, Refused, SourceTooLong, Usage, WriteFault}
-use Rattle.obq_run.specs.Ends.{IfNotYet, IfReadFault, IfRefused, IfTooLong, IsCheckFinish, IsCheckRefusal, IsRunFinish, IsRunRefusal, OnWriteFault}
+use Rattle.obq_run.specs.Ends.{IfNotYet, IfReadFault, IfRefused, IfTooLong, IsCheckRefusal, IsRunRefusal}
 use Rattle.obq_run.specs.Known.{AreHeld, AreTold, IsIt, WhereTold}
 use Rattle.obq_run.specs.Runs.{AllWithin, CheckCompletes, IsNotYet, IsNotYetOf, IsRefusalOf, NoneRose, NotYetCompletes, OnlyWrite, RunCompletes}
-use Rattle.obq_run.proofs.PutHistory.{accepted_of}
+use Rattle.obq_run.proofs.PutHistory.{accepted_texts}
 use Rattle.obq_run.proofs.PutTexts.{not_both}
 
 -- ---- what is told is what was read
@@ -82,8 +82,8 @@ not_yet_not : (holds : List ℕ → Option (List ℕ)) (limit : ℕ) (paths : Li
     → AreTold holds paths (source ∷ []) → IsReading source tokens → IsPutTexts tokens texts → IsNotYetOf holds limit paths k → ⊥
 not_yet_not holds limit paths source tokens texts k told is_read form h =
     let is : h.source ≡ source = one_of h.source source (same_sources holds limit paths (source ∷ []) (h.source ∷ []) told h.held) in
-    let other : IsReading source h.not_yet.tokens = subst (λ s. IsReading s h.not_yet.tokens) is h.not_yet.accepted.reading in
-    stops_not texts k (one_reading source h.not_yet.tokens tokens other is_read) form h.not_yet.stops
+    let is_read_too : IsReading source h.not_yet.tokens = subst (λ s. IsReading s h.not_yet.tokens) is h.not_yet.accepted.reading in
+    stops_not texts k (one_reading source h.not_yet.tokens tokens is_read_too is_read) form h.not_yet.stops
 
 pub run_refused : (holds : List ℕ → Option (List ℕ)) (limit : ℕ) (paths : List (List ℕ)) (Rises : List ℕ → Type 0) (output_rose : Type 0) (cause : Cause) → IsRunRefusal cause
     → IfReadFault cause (λ file. IsSomeAnd (slice_get paths file) Rises) → IfTooLong cause (λ s. IsSomeAnd (slice_get paths s) (λ p. WhereTold (holds p) (λ xs. limit < length xs)))
@@ -93,25 +93,16 @@ run_refused holds limit paths Rises out (ReadFault file) only read long faulty y
 run_refused holds limit paths Rises out (SourceTooLong s) only read long faulty yet =
     λ source tokens texts told within is_read form none calm. absurd (too_long_at holds limit paths (source ∷ []) s told (within, tt) long)
 run_refused holds limit paths Rises out (Refused s fault) only read long faulty yet =
-    λ source tokens texts told within is_read form none calm. let a = accepted_of source tokens texts is_read form in absurd (refusal_not holds limit paths (source ∷ []) (a.0 ∷ []) s fault told ((tokens, a.1), tt) faulty)
+    λ source tokens texts told within is_read form none calm. (
+    let tree : (tree : Block) × IsAccepted source tokens tree = accepted_texts source tokens texts is_read form in
+    absurd (refusal_not holds limit paths (source ∷ []) (tree.0 ∷ []) s fault told ((tokens, tree.1), tt) faulty)
+    )
 run_refused holds limit paths Rises out (NotYet s k) only read long faulty yet =
     λ source tokens texts told within is_read form none calm. absurd (not_yet_not holds limit paths source tokens texts k told is_read form yet.1)
 run_refused holds limit paths Rises out Ran only read long faulty yet = absurd only
 run_refused holds limit paths Rises out Checked only read long faulty yet = absurd only
 run_refused holds limit paths Rises out (Usage word) only read long faulty yet = absurd only
 run_refused holds limit paths Rises out WriteFault only read long faulty yet = absurd only
-
-pub run_finished : (holds : List ℕ → Option (List ℕ)) (limit : ℕ) (paths : List (List ℕ)) (Rises : List ℕ → Type 0) (output_rose : Type 0) (cause : Cause) → IsRunFinish cause → OnWriteFault cause output_rose
-    → RunCompletes holds limit paths Rises output_rose cause
-run_finished holds limit paths Rises out Ran only fault = λ source tokens texts told within is_read form none calm. tt
-run_finished holds limit paths Rises out WriteFault only fault = λ source tokens texts told within is_read form none calm. absurd (calm fault)
-run_finished holds limit paths Rises out (Usage word) only fault = absurd only
-run_finished holds limit paths Rises out (SourceTooLong s) only fault = absurd only
-run_finished holds limit paths Rises out (Refused s f) only fault = absurd only
-run_finished holds limit paths Rises out (NotYet s k) only fault = absurd only
-run_finished holds limit paths Rises out (ReadFault file) only fault = absurd only
-run_finished holds limit paths Rises out NoMemory only fault = absurd only
-run_finished holds limit paths Rises out Checked only fault = absurd only
 
 -- ---- a source that doesn't run yet
 
@@ -159,15 +150,3 @@ check_refused holds limit paths Rises out Ran only read long faulty = absurd onl
 check_refused holds limit paths Rises out Checked only read long faulty = absurd only
 check_refused holds limit paths Rises out (Usage word) only read long faulty = absurd only
 check_refused holds limit paths Rises out WriteFault only read long faulty = absurd only
-
-pub check_finished : (holds : List ℕ → Option (List ℕ)) (limit : ℕ) (paths : List (List ℕ)) (Rises : List ℕ → Type 0) (output_rose : Type 0) (cause : Cause) → IsCheckFinish cause
-    → OnWriteFault cause output_rose → CheckCompletes holds limit paths Rises output_rose cause
-check_finished holds limit paths Rises out Checked only fault = λ sources trees told within accepted none calm. tt
-check_finished holds limit paths Rises out WriteFault only fault = λ sources trees told within accepted none calm. absurd (calm fault)
-check_finished holds limit paths Rises out Ran only fault = absurd only
-check_finished holds limit paths Rises out (Usage word) only fault = absurd only
-check_finished holds limit paths Rises out (SourceTooLong s) only fault = absurd only
-check_finished holds limit paths Rises out (Refused s f) only fault = absurd only
-check_finished holds limit paths Rises out (NotYet s k) only fault = absurd only
-check_finished holds limit paths Rises out (ReadFault file) only fault = absurd only
-check_finished holds limit paths Rises out NoMemory only fault = absurd only

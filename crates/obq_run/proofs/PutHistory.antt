@@ -65,17 +65,20 @@ groups_width : {texts : List (List ℕ)} {ts rest : List Token} → AreGroups te
 groups_width no_group = omega arith
 groups_width (group {text} {texts} {ts} {us} {rest} e more) = omega (arith, group_width ts us text (group_tokens ts text us e), groups_width more)
 
--- ---- the tree
+-- ---- the run
+
+-- the tokens of texts derive the tree of their prints
+derived_of : {source : List ℕ} {tokens : List Token} {texts : List (List ℕ)} → IsReading source tokens → (form : IsPutTexts tokens texts) → Derives tokens (block (map item_of (groups_print form.1).prints) (place tokens))
+derived_of {source} {tokens} is_read (rest, groups, end) =
+    let prints = groups_print groups in
+    let tree : Block = block (map item_of prints.prints) (place tokens) in
+    let last : (p : ℕ) × (rest ≡ token kind.EndOfSource p ∷ []) = end_alone rest end (ended_rest groups (ended source tokens is_read)) in
+    (last.0, subst (λ r. IsBlock tree tokens r) last.1 prints.block)
 
 -- a source that only writes texts is accepted
-pub accepted_of : (source : List ℕ) (tokens : List Token) (texts : List (List ℕ)) → IsReading source tokens → IsPutTexts tokens texts → (tree : Block) × IsAccepted source tokens tree
-accepted_of source tokens texts is_read (rest, groups, end) =
-    let prints = groups_print groups in
-    let last : (p : ℕ) × (rest ≡ token kind.EndOfSource p ∷ []) = end_alone rest end (ended_rest groups (ended source tokens is_read)) in
-    let tree : Block = block (map item_of prints.prints) (place tokens) in
-    (tree, record { reading = is_read; derived = (last.0, subst (λ r. IsBlock tree tokens r) last.1 prints.block) })
-
--- ---- the run
+pub accepted_texts : (source : List ℕ) (tokens : List Token) (texts : List (List ℕ)) → IsReading source tokens → IsPutTexts tokens texts → (tree : Block) × IsAccepted source tokens tree
+accepted_texts source tokens texts is_read form =
+    (block (map item_of (groups_print form.1).prints) (place tokens), record { reading = is_read; derived = derived_of is_read form })
 
 -- a source that only writes texts ran to its end, with the journal of its texts
 pub end_of : (source : List ℕ) (tokens : List Token) (texts : List (List ℕ)) → IsReading source tokens → IsPutTexts tokens texts → length source ≤ 1048576
@@ -83,9 +86,8 @@ pub end_of : (source : List ℕ) (tokens : List Token) (texts : List (List ℕ))
 end_of source tokens texts is_read (rest, groups, end) within =
     let prints = groups_print groups in
     let ps = prints.prints in
-    let last : (p : ℕ) × (rest ≡ token kind.EndOfSource p ∷ []) = end_alone rest end (ended_rest groups (ended source tokens is_read)) in
     let tree : Block = block (map item_of ps) (place tokens) in
-    let derived : Derives tokens tree = (last.0, subst (λ r. IsBlock tree tokens r) last.1 prints.block) in
+    let derived : Derives tokens tree = derived_of is_read (rest, groups, end) in
     let trees : map block_tree (tree ∷ []) ≡ printing ps (place tokens) = ap (λ t. t ∷ []) (tree_is ps (place tokens)) in
     let entries : print_entries ps ≡ history.entries_of texts = entries_same ps ∙ ap history.entries_of prints.texts_are in
     let bytes : joined_after [] ps ≡ flat_map (λ t. t) texts = joined_texts ps ∙ (texts_joined ps ∙ ap (flat_map (λ t. t)) prints.texts_are) in
