@@ -15,6 +15,3 @@ mod slots;
 
 pub use refused::ScopeRefused;
 pub use resolver::resolve;
-
-#[cfg(test)]
-mod tests;
