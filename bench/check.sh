@@ -36,25 +36,14 @@ make_source() {
     }' > "$3"
 }
 
-# best_time FILE: the shortest of all runs, in nanoseconds; the source has to be accepted
-best_time() {
-    best=
-    run=0
-    while [ "$run" -lt "$runs" ]; do
-        begin=$(date +%s%N)
-        $command "A=$1" > "$folder/out" || exit 1
-        end=$(date +%s%N)
-        taken=$((end - begin))
-        if [ -z "$best" ] || [ "$taken" -lt "$best" ]; then best=$taken; fi
-        run=$((run + 1))
-    done
-    echo "$best"
+. "$(dirname "$0")/times.sh"
+
+# a source has to be accepted
+read_source() {
+    $command "A=$1" > "$folder/out" || exit 1
 }
 
-: > "$folder/empty"
-idle=$(best_time "$folder/empty")
-echo "cores: $(nproc)"
-echo "an empty source: $idle ns"
+time_nothing
 for shape in nesting items chain array; do
     make_source "$shape" 262144 "$folder/small"
     make_source "$shape" 1048576 "$folder/large"

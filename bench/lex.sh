@@ -30,25 +30,14 @@ make_source() {
     }' > "$2"
 }
 
-# best_time FILE: the shortest of all runs, in nanoseconds
-best_time() {
-    best=
-    run=0
-    while [ "$run" -lt "$runs" ]; do
-        begin=$(date +%s%N)
-        $command "$argument$1" > "$folder/out" 2>&1 || true
-        end=$(date +%s%N)
-        taken=$((end - begin))
-        if [ -z "$best" ] || [ "$taken" -lt "$best" ]; then best=$taken; fi
-        run=$((run + 1))
-    done
-    echo "$best"
+. "$(dirname "$0")/times.sh"
+
+# a source may be refused, since its time counts
+read_source() {
+    $command "$argument$1" > "$folder/out" 2>&1 || true
 }
 
-: > "$folder/empty"
-idle=$(best_time "$folder/empty")
-echo "cores: $(nproc)"
-echo "an empty source: $idle ns"
+time_nothing
 first=
 for kib in 128 512 1024; do
     bytes=$((kib * 1024))
