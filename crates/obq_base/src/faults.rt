@@ -1,5 +1,7 @@
 //! Faults of a source.
 
+use crate::bytes::Name;
+
 /// The kinds of lexical faults.
 #[derive(Clone, Copy, Debug, PartialEq, Eq)]
 pub enum LexKind {
@@ -23,11 +25,13 @@ pub enum LexKind {
     TooDeep,
 }
 
-/// The first fault of a source: of its bytes, or of its tokens.
-#[derive(Clone, Copy, Debug, PartialEq, Eq)]
+/// The first fault of a source: of its bytes, of its tokens, or of its names.
+#[derive(Debug, PartialEq, Drop)]
 pub enum SourceFault {
     /// `place` is the byte of the source, from 0.
     Lexical { kind: LexKind, place: u32 },
     /// `token` is the first token, from 0, that no program has there.
     Syntax { token: u32 },
+    /// The name that nothing binds; `place` is the byte of the source, from 0, at which it begins.
+    Unbound { name: Name, place: u32 },
 }

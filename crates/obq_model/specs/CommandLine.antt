@@ -1,7 +1,8 @@
--- The words behind the program's name: `run` or `check`, and one site word.
-use Rattle.std.specs.Prelude.{Bool, List, None, Option, Some, [], bytes_eq, codes, false, if◌then◌else◌, length, nat_le, nat_lt, not, ℕ, ◌&&◌, ◌==◌, ◌||◌, ◌∷◌}
+-- The words behind the program's name: `run` or `check`, and site words with different names.
+use Rattle.std.specs.Prelude.{Bool, List, None, Option, Some, [], bytes_eq, codes, false, if◌then◌else◌, length, nat_le, nat_lt, not, suc, ℕ, ◌&&◌, ◌++◌, ◌==◌, ◌||◌, ◌∷◌}
 use Rattle.std.specs.Char.{is_ascii_alphabetic, is_ascii_alphanumeric}
 use Rattle.std.specs.List.{after_first, before_first, list_all, position_or_len}
+use Rattle.obq_model.specs.Put.{among}
 
 -- a letter, a digit or `_`
 abbrev pub is_name_byte : ℕ → Bool
@@ -37,19 +38,32 @@ abbrev pub is_checking : List (List ℕ) → Bool
 is_checking [] = false
 is_checking (word ∷ words) = is_check word
 
--- behind a site word no word can stand
-abbrev pub bad_behind_site : List (List ℕ) → Option ℕ
-bad_behind_site [] = None
-bad_behind_site (word ∷ words) = Some 2
+-- a word that can't stand in its place, or that gives one site too many
+pub data WordFault : Type 0 where
+  UsageAt : ℕ → WordFault
+  TooManyAt : ℕ → WordFault
 
-abbrev pub bad_behind_command : List (List ℕ) → Option ℕ
-bad_behind_command [] = Some 1
-bad_behind_command (word ∷ words) = if is_site_word word then bad_behind_site words else Some 1
+-- so many sites at most
+abbrev pub most_sites : ℕ
+most_sites = 16
+
+-- the first fault of these words, the first of which is word k, behind sites of these names: each is a site word with a name that wasn't
+-- given before, and they aren't too many
+abbrev pub bad_behind_sites : ℕ → List (List ℕ) → List (List ℕ) → Option WordFault
+bad_behind_sites k names [] = None
+bad_behind_sites k names (word ∷ words) =
+    if is_site_word word && not (among (name_part word) names)
+    then if length names == most_sites then Some (TooManyAt k) else bad_behind_sites (suc k) (names ++ name_part word ∷ []) words
+    else Some (UsageAt k)
+
+abbrev pub bad_behind_command : List (List ℕ) → Option WordFault
+bad_behind_command [] = Some (UsageAt 1)
+bad_behind_command (word ∷ words) = bad_behind_sites 1 [] (word ∷ words)
 
 -- the first word that can't stand in its place; a missing word is the number of words
-abbrev pub bad_word : List (List ℕ) → Option ℕ
-bad_word [] = Some 0
-bad_word (word ∷ words) = if is_command word then bad_behind_command words else Some 0
+abbrev pub bad_word : List (List ℕ) → Option WordFault
+bad_word [] = Some (UsageAt 0)
+bad_word (word ∷ words) = if is_command word then bad_behind_command words else Some (UsageAt 0)
 
 -- the site words
 abbrev pub site_words : List (List ℕ) → List (List ℕ)

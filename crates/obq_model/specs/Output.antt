@@ -52,12 +52,19 @@ lexical_line name kind_name place = name ++ (codes ": lexical " ++ (kind_name ++
 abbrev pub syntax_line : List ℕ → ℕ → List ℕ
 syntax_line name token = name ++ (codes ": syntax at token " ++ (decimal token ++ newline))
 
+abbrev pub unbound_line : List ℕ → List ℕ → ℕ → List ℕ
+unbound_line name word place = name ++ (codes ": unbound " ++ (word ++ (codes " at byte " ++ (decimal place ++ newline))))
+
 abbrev pub refused_line : List ℕ → SourceFault → List ℕ
 refused_line name (fault.Lexical kind place) = lexical_line name (kind_text kind) place
 refused_line name (fault.Syntax token) = syntax_line name token
+refused_line name (fault.Unbound word place) = unbound_line name word place
 
 abbrev pub usage_line : ℕ → List ℕ
 usage_line word = codes "usage: word " ++ (decimal word ++ newline)
+
+abbrev pub too_many_line : ℕ → List ℕ
+too_many_line word = codes "too many sites: word " ++ (decimal word ++ newline)
 
 abbrev pub too_long_line : List ℕ → List ℕ
 too_long_line name = name ++ (codes ": source too long" ++ newline)
