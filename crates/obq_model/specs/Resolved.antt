@@ -1,11 +1,13 @@
 -- What the codes of sources stand for.
-use Rattle.std.specs.Prelude.{List, Option, Some, [], length, option_and_then, slice_get, ℕ, ◌∷◌, ◌≡◌}
+use Rattle.std.specs.Prelude.{List, Option, Some, [], length, option_and_then, slice_get, suc, ℕ, ◌∷◌, ◌≡◌}
 use Rattle.obq_base.specs.declared.code.Node.{Node}
 use Rattle.obq_base.specs.declared.code.Node.TheVariants as n
 use Rattle.obq_base.specs.declared.code.Code.{Code}
 use Rattle.obq_base.specs.declared.code.CodeNo.{CodeNo}
 use Rattle.obq_base.specs.declared.code.SourceCode.{SourceCode}
+use Rattle.obq_base.specs.declared.trees.Block.{Block}
 use Rattle.obq_base.specs.Tree.{BlockTree}
+use Rattle.obq_base.specs.View.{block_tree}
 use Rattle.obq_model.specs.Draft.{Draft, Done, Plain, Both, Closure, Method, Group, Members, NoMembers, AMember, draft_block}
 use Rattle.obq_model.specs.Occurrences.{unbound}
 use Rattle.obq_model.specs.Scopes.{outermost}
@@ -50,3 +52,10 @@ pub record Resolves (source : ℕ) (tree : BlockTree) (made : SourceCode) : Type
   pub main : Code
   pub found : HasCode source made.codes made.main 0 0 main
   pub reads : IsCode source made.codes (draft_block (outermost source) [] tree) main.nodes []
+
+-- the parts are the codes of these blocks, in order, where the first is of the source with this number
+abbrev pub AreResolved : ℕ → List Block → List SourceCode → Type 0
+AreResolved source [] [] = Unit {0}
+AreResolved source (block ∷ blocks) (part ∷ parts) = Resolves source (block_tree block) part × AreResolved (suc source) blocks parts
+AreResolved source [] (part ∷ parts) = ⊥
+AreResolved source (block ∷ blocks) [] = ⊥
