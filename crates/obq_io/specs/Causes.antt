@@ -1,5 +1,5 @@
 -- Why a call on the outside failed, and how often one did.
-use Rattle.std.specs.Prelude.{ℕ, ◌≡◌, ◌+◌, ◌-◌, ◌≤◌, ◌<◌, ◌^◌, min, List, [], ◌∷◌, ⊤, Option, None, Some, Result, OnErr}
+use Rattle.std.specs.Prelude.{ℕ, ◌≡◌, ◌+◌, ◌-◌, ◌≤◌, ◌^◌, min, List, [], ◌∷◌, ⊤, Option, None, Some, Result, OnErr}
 
 -- the count rose by one at least, or stands at the last value that it can have
 abbrev pub Rose : ℕ → ℕ → Type 0

@@ -1,3 +1,5 @@
 pub mod Causes
+pub mod Known
 pub mod Memory
 pub mod Named
+pub mod Reads

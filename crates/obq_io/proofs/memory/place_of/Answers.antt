@@ -1,9 +1,9 @@
-use Rattle.std.proofs.Common.{◌≡◌, ◌<◌, ◌∷◌, ◌++◌, ℕ, List, Some, true, length, drop, suc, slice_get, refl, ap, sym, ◌∙◌, arith, get_or}
+use Rattle.std.proofs.Common.{◌≡◌, ◌<◌, ◌∷◌, ℕ, List, Some, true, length, drop, suc, slice_get, refl, ap, sym, ◌∙◌, arith, get_or}
 use Rattle.std.proofs.Math.Seq.{drop-cons}
 use Rattle.std.proofs.lemmas.Option.{slice_get-get_or}
 use Rattle.std.specs.Str.{bytes_eq}
 use Rattle.std.specs.String.{string_bytes}
-use Rattle.obq_io.specs.Named.{NamedFile, held, content, content_at}
+use Rattle.obq_io.specs.Named.{NamedFile, held, content_at}
 use Rattle.obq_io.proofs.memory.place_of.Goals as goal
 
 found : (fs : List NamedFile) (name : List ℕ) (i : ℕ) (x : NamedFile) → held fs name ≡ held (drop i fs) name → i < length fs → x ≡ get_or fs i x

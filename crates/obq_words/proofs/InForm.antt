@@ -1,0 +1,80 @@
+-- The sites that a command line gives are in form.
+use Rattle.std.proofs.Common.{Bool, List, None, Option, Some, [], ap, append_assoc, arith, bytes_eq, cond, false, length, length-append, not, refl, rules, subst, suc, sym, tests, true, ℕ, ◌&&◌, ◌++◌, ◌==◌, ◌≡◌, ◌≤◌, ◌∙◌, ◌∷◌}
+use Rattle.std.proofs.lemmas.Bool.Decides.{nat_tests}
+use Rattle.std.proofs.lemmas.List.{append-nil, length-map}
+use Rattle.std.proofs.lemmas.List.Folds.{list_all-append}
+use Rattle.std.proofs.lemmas.Map.Keys.{IsDistinct-push}
+use Rattle.std.specs.List.{IsDistinct, list_all, list_any}
+use Rattle.std.proofs.lemmas.List.Recursion.{same_from_clauses}
+use Rattle.obq_model.specs.CommandLine.{TooManyAt, UsageAt, WordFault, bad_behind_command, bad_behind_sites, bad_word, is_command, is_site_name, is_site_word, name_part}
+use Rattle.obq_model.specs.Put.{among}
+use Rattle.obq_words.specs.declared.words.SiteWord.{SiteWord}
+use Rattle.obq_words.specs.Words.{AreInForm, AreSites, given_names, names_in, names_of}
+
+-- names as sites may have them
+record AreNames (names : List (List ℕ)) : Type 0 where
+  most : length names ≤ 16
+  named : list_all is_site_name names ≡ true
+  different : IsDistinct bytes_eq names
+
+-- a choice that isn't the second
+first_chosen : (b : Bool) (x : Option WordFault) (fault : WordFault) → cond b x (Some fault) ≡ None → (b ≡ true) × (x ≡ None)
+first_chosen true x fault e = (refl, e)
+first_chosen false x fault e = absurd cc
+
+-- a choice that isn't the first
+second_chosen : (b : Bool) (x : Option WordFault) (fault : WordFault) → cond b (Some fault) x ≡ None → (b ≡ false) × (x ≡ None)
+second_chosen true x fault e = absurd cc
+second_chosen false x fault e = (refl, e)
+
+-- of three tests that pass the second passes
+second_passes : (a b c : Bool) → (a && b && c) ≡ true → b ≡ true
+second_passes true true c e = refl
+second_passes true false c e = absurd cc
+second_passes false b c e = absurd cc
+
+both_pass : (a b : Bool) → (a && not b) ≡ true → (a ≡ true) × (b ≡ false)
+both_pass true true e = absurd cc
+both_pass true false e = (refl, refl)
+both_pass false b e = absurd cc
+
+among_any : (name : List ℕ) (names : List (List ℕ)) → list_any (bytes_eq name) names ≡ among name names
+among_any name [] = refl
+among_any name (n ∷ ns) = ap (λ b. bytes_eq name n || b) (among_any name ns)
+
+one_more : (names : List (List ℕ)) (name : List ℕ) → AreNames names → is_site_name name ≡ true → among name names ≡ false → (length names == 16) ≡ false → AreNames (names ++ name ∷ [])
+one_more names name are good new few = record {
+  most = ?;
+  named = list_all-append is_site_name names (name ∷ []) ∙ rw (are.named, good) refl;
+  different = IsDistinct-push string_eq_equiv names name are.different (among_any name names ∙ new);
+}
+
+-- where no word behind these names is bad, all names are in form
+all_names : (k : ℕ) (names words : List (List ℕ)) → bad_behind_sites k names words ≡ None → AreNames names → AreNames (names ++ names_in words)
+all_names k names [] good are = rw append-nil are
+all_names k names (word ∷ words) good are =
+    let stands = first_chosen _ _ _ good in
+    let fits = second_chosen _ _ _ stands.1 in
+    let two = both_pass _ _ stands.0 in
+    let more : AreNames (names ++ name_part word ∷ []) = one_more names (name_part word) are (second_passes _ _ _ two.0) two.1 fits.0 in
+    rw (← append_assoc names (name_part word ∷ []) (names_in words)) (all_names (suc k) (names ++ name_part word ∷ []) words fits.1 more)
+
+no_names : AreNames []
+unfolding IsDistinct
+no_names = record { most = omega arith; named = refl; different = tt }
+
+given : (words : List (List ℕ)) → bad_word words ≡ None → (1 ≤ length (given_names words)) × AreNames (given_names words)
+given [] e = absurd cc
+given (c ∷ []) e = ?
+given (c ∷ s ∷ words) e = (?, all_names 1 [] (s ∷ words) (first_chosen _ _ _ e).1 no_names)
+
+pub in_form : (words : List (List ℕ)) (sites : List SiteWord) → bad_word words ≡ None → AreSites words sites → AreInForm sites
+in_form words sites good are =
+    let names = given words good in
+    let same : length sites ≡ length (given_names words) = sym (length-map sites (λ s. s.name)) ∙ ap length are.names in
+    record {
+      some = omega (arith, same, names.0);
+      most = omega (arith, same, names.1.most);
+      named = rw are.names names.1.named;
+      different = rw are.names names.1.different;
+    }
