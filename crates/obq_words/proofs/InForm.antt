@@ -1,15 +1,15 @@
 -- The sites that a command line gives are in form.
-use Rattle.std.proofs.Common.{Bool, List, None, Option, Some, [], ap, append_assoc, arith, bytes_eq, cond, false, length, length-append, not, refl, rules, subst, suc, sym, tests, true, ℕ, ◌&&◌, ◌++◌, ◌==◌, ◌≡◌, ◌≤◌, ◌∙◌, ◌∷◌}
+use Rattle.std.proofs.Common.{Bool, List, None, Option, Some, [], ap, append_assoc, arith, bytes_eq, cond, false, length, length-append, not, refl, suc, sym, true, ℕ, ◌&&◌, ◌||◌, ◌+◌, ◌++◌, ◌==◌, ◌≡◌, ◌≤◌, ◌∙◌, ◌∷◌}
 use Rattle.std.proofs.lemmas.Bool.Decides.{nat_tests}
 use Rattle.std.proofs.lemmas.List.{append-nil, length-map}
 use Rattle.std.proofs.lemmas.List.Folds.{list_all-append}
 use Rattle.std.proofs.lemmas.Map.Keys.{IsDistinct-push}
+use Rattle.std.proofs.lemmas.Cmp.{nat_list_eq_equiv}
 use Rattle.std.specs.List.{IsDistinct, list_all, list_any}
-use Rattle.std.proofs.lemmas.List.Recursion.{same_from_clauses}
-use Rattle.obq_model.specs.CommandLine.{TooManyAt, UsageAt, WordFault, bad_behind_command, bad_behind_sites, bad_word, is_command, is_site_name, is_site_word, name_part}
+use Rattle.obq_model.specs.CommandLine.{UsageAt, WordFault, bad_behind_sites, bad_word, is_command, is_site_name, name_part}
 use Rattle.obq_model.specs.Put.{among}
 use Rattle.obq_words.specs.declared.words.SiteWord.{SiteWord}
-use Rattle.obq_words.specs.Words.{AreInForm, AreSites, given_names, names_in, names_of}
+use Rattle.obq_words.specs.Words.{AreInForm, AreSites, given_names, names_in}
 
 -- names as sites may have them
 record AreNames (names : List (List ℕ)) : Type 0 where
@@ -21,6 +21,9 @@ record AreNames (names : List (List ℕ)) : Type 0 where
 first_chosen : (b : Bool) (x : Option WordFault) (fault : WordFault) → cond b x (Some fault) ≡ None → (b ≡ true) × (x ≡ None)
 first_chosen true x fault e = (refl, e)
 first_chosen false x fault e = absurd cc
+
+fault_no : (fault : WordFault) → Some fault ≡ None → ⊥
+fault_no fault e = cc
 
 -- a choice that isn't the first
 second_chosen : (b : Bool) (x : Option WordFault) (fault : WordFault) → cond b (Some fault) x ≡ None → (b ≡ false) × (x ≡ None)
@@ -42,11 +45,14 @@ among_any : (name : List ℕ) (names : List (List ℕ)) → list_any (bytes_eq n
 among_any name [] = refl
 among_any name (n ∷ ns) = ap (λ b. bytes_eq name n || b) (among_any name ns)
 
+at_most : (n m : ℕ) → n ≤ 16 → (n == 16) ≡ false → m ≡ n + 1 → m ≤ 16
+at_most n m within few more = grind (arith, nat_tests)
+
 one_more : (names : List (List ℕ)) (name : List ℕ) → AreNames names → is_site_name name ≡ true → among name names ≡ false → (length names == 16) ≡ false → AreNames (names ++ name ∷ [])
 one_more names name are good new few = record {
-  most = ?;
+  most = at_most (length names) (length (names ++ name ∷ [])) are.most few (length-append names (name ∷ []));
   named = list_all-append is_site_name names (name ∷ []) ∙ rw (are.named, good) refl;
-  different = IsDistinct-push string_eq_equiv names name are.different (among_any name names ∙ new);
+  different = IsDistinct-push nat_list_eq_equiv names name are.different (among_any name names ∙ new);
 }
 
 -- where no word behind these names is bad, all names are in form
@@ -65,8 +71,8 @@ no_names = record { most = omega arith; named = refl; different = tt }
 
 given : (words : List (List ℕ)) → bad_word words ≡ None → (1 ≤ length (given_names words)) × AreNames (given_names words)
 given [] e = absurd cc
-given (c ∷ []) e = ?
-given (c ∷ s ∷ words) e = (?, all_names 1 [] (s ∷ words) (first_chosen _ _ _ e).1 no_names)
+given (c ∷ []) e = absurd (fault_no _ (first_chosen (is_command c) (Some (UsageAt 1)) (UsageAt 0) e).1)
+given (c ∷ s ∷ words) e = (omega arith, all_names 1 [] (s ∷ words) (first_chosen _ _ _ e).1 no_names)
 
 pub in_form : (words : List (List ℕ)) (sites : List SiteWord) → bad_word words ≡ None → AreSites words sites → AreInForm sites
 in_form words sites good are =

@@ -1,5 +1,5 @@
 -- The first word that can't stand, among the words before one, that word, and those behind it.
-use Rattle.std.proofs.Common.{Bool, List, None, Option, Some, String, [], ap, arith, cond, drop, false, get_or, length, length-take, map, not, refl, rules, suc, sym, take, tests, true, ℕ, ◌&&◌, ◌++◌, ◌==◌, ◌<◌, ◌≡◌, ◌≤◌, ◌∙◌, ◌∷◌}
+use Rattle.std.proofs.Common.{Bool, List, None, Option, Some, String, [], ap, arith, drop, false, get_or, length, length-take, not, refl, rules, suc, sym, take, tests, true, ℕ, ◌&&◌, ◌++◌, ◌==◌, ◌<◌, ◌≡◌, ◌≤◌, ◌∙◌, ◌∷◌}
 use Rattle.std.proofs.Math.ListN.{drop_of_length-le}
 use Rattle.std.proofs.Math.Seq.{drop-cons, take-suc}
 use Rattle.std.proofs.lemmas.List.{length-map, map-append}
@@ -44,12 +44,20 @@ names_length : (words : List (String Global)) (i : ℕ) → i ≤ length words �
 names_length words i within = simp (length-map, length-take) (omega arith)
 
 pub told_usage : (words : List (String Global)) (i : ℕ) (d : String Global) → i < length words → stands (string_bytes (get_or words i d)) (names_in (bytes_of (take i words))) ≡ false → told_from i words ≡ Some (UsageAt (suc i))
-told_usage words i d lt e = told_at words i d lt ∙ refuses _ _ _ _ e
+told_usage words i d lt e =
+    let names = names_in (bytes_of (take i words)) in
+    told_at words i d lt ∙ refuses (suc i) names (string_bytes (get_or words i d)) (bytes_of (drop (suc i) words)) e
 
 pub told_too_many : (words : List (String Global)) (d : String Global) → 16 < length words → stands (string_bytes (get_or words 16 d)) (names_in (bytes_of (take 16 words))) ≡ true → told_from 16 words ≡ Some (TooManyAt 17)
-told_too_many words d lt e = told_at words 16 d lt ∙ exceeds _ _ _ _ e (names_length words 16 (omega arith))
+told_too_many words d lt e =
+    let names = names_in (bytes_of (take 16 words)) in
+    told_at words 16 d lt ∙ exceeds 17 names (string_bytes (get_or words 16 d)) (bytes_of (drop 17 words)) e (names_length words 16 (omega arith))
 
 pub told_on : (words : List (String Global)) (i : ℕ) (d : String Global) → i < length words → i < 16 → stands (string_bytes (get_or words i d)) (names_in (bytes_of (take i words))) ≡ true → told_from i words ≡ told_from (suc i) words
-told_on words i d lt few e =
-    let before : names_in (bytes_of (take (suc i) words)) ≡ names_in (bytes_of (take i words)) ++ name_part (string_bytes (get_or words i d)) ∷ [] = ap (λ ws. names_in (bytes_of ws)) (take-suc words i d lt) ∙ names_behind (take i words) (get_or words i d) in
-    told_at words i d lt ∙ (accepts _ _ _ _ e (rw (names_length words i (omega arith)) few) ∙ rw before refl)
+told_on words i d lt less e =
+    let names = names_in (bytes_of (take i words)) in
+    let word = string_bytes (get_or words i d) in
+    let rest = bytes_of (drop (suc i) words) in
+    let few : length names < 16 = omega (arith, less, names_length words i (omega arith)) in
+    let before : names_in (bytes_of (take (suc i) words)) ≡ names ++ name_part word ∷ [] = ap (λ ws. names_in (bytes_of ws)) (take-suc words i d lt) ∙ names_behind (take i words) (get_or words i d) in
+    told_at words i d lt ∙ (accepts (suc i) names word rest e few ∙ ap (λ ns. bad_behind_sites (suc (suc i)) ns rest) (sym before))
