@@ -9,7 +9,7 @@ use Rattle.std.specs.List.{IsDistinct, list_all, list_any}
 use Rattle.obq_model.specs.CommandLine.{UsageAt, WordFault, bad_behind_sites, bad_word, is_command, is_site_name, name_part}
 use Rattle.obq_model.specs.Put.{among}
 use Rattle.obq_words.specs.declared.words.SiteWord.{SiteWord}
-use Rattle.obq_words.specs.Words.{AreInForm, AreSites, given_names, names_in}
+use Rattle.obq_words.specs.Words.{AreInForm, AreSites, given_names, names_in, names_of}
 
 -- names as sites may have them
 record AreNames (names : List (List ℕ)) : Type 0 where
@@ -17,13 +17,13 @@ record AreNames (names : List (List ℕ)) : Type 0 where
   named : list_all is_site_name names ≡ true
   different : IsDistinct bytes_eq names
 
+fault_no : (fault : WordFault) → Some fault ≡ None → ⊥
+fault_no fault e = cc
+
 -- a choice that isn't the second
 first_chosen : (b : Bool) (x : Option WordFault) (fault : WordFault) → cond b x (Some fault) ≡ None → (b ≡ true) × (x ≡ None)
 first_chosen true x fault e = (refl, e)
 first_chosen false x fault e = absurd cc
-
-fault_no : (fault : WordFault) → Some fault ≡ None → ⊥
-fault_no fault e = cc
 
 -- a choice that isn't the first
 second_chosen : (b : Bool) (x : Option WordFault) (fault : WordFault) → cond b (Some fault) x ≡ None → (b ≡ false) × (x ≡ None)
@@ -41,6 +41,7 @@ both_pass true true e = absurd cc
 both_pass true false e = (refl, refl)
 both_pass false b e = absurd cc
 
+-- the test among names as std writes it
 among_any : (name : List ℕ) (names : List (List ℕ)) → list_any (bytes_eq name) names ≡ among name names
 among_any name [] = refl
 among_any name (n ∷ ns) = ap (λ b. bytes_eq name n || b) (among_any name ns)
@@ -48,6 +49,7 @@ among_any name (n ∷ ns) = ap (λ b. bytes_eq name n || b) (among_any name ns)
 at_most : (n m : ℕ) → n ≤ 16 → (n == 16) ≡ false → m ≡ n + 1 → m ≤ 16
 at_most n m within few more = grind (arith, nat_tests)
 
+-- one more name that is new
 one_more : (names : List (List ℕ)) (name : List ℕ) → AreNames names → is_site_name name ≡ true → among name names ≡ false → (length names == 16) ≡ false → AreNames (names ++ name ∷ [])
 one_more names name are good new few = record {
   most = at_most (length names) (length (names ++ name ∷ [])) are.most few (length-append names (name ∷ []));
@@ -74,6 +76,10 @@ given [] e = absurd cc
 given (c ∷ []) e = absurd (fault_no _ (first_chosen (is_command c) (Some (UsageAt 1)) (UsageAt 0) e).1)
 given (c ∷ s ∷ words) e = (omega arith, all_names 1 [] (s ∷ words) (first_chosen _ _ _ e).1 no_names)
 
+distinct_two : IsDistinct bytes_eq ((65 ∷ []) ∷ (69 ∷ []) ∷ [])
+unfolding IsDistinct
+distinct_two = ((refl, tt), (tt, tt))
+
 pub in_form : (words : List (List ℕ)) (sites : List SiteWord) → bad_word words ≡ None → AreSites words sites → AreInForm sites
 in_form words sites good are =
     let names = given words good in
@@ -83,4 +89,15 @@ in_form words sites good are =
       most = omega (arith, same, names.1.most);
       named = rw are.names names.1.named;
       different = rw are.names names.1.different;
+    }
+
+-- the sites A and E are in form
+pub two_in_form : (sites : List SiteWord) → names_of sites ≡ (65 ∷ []) ∷ (69 ∷ []) ∷ [] → AreInForm sites
+two_in_form sites names =
+    let two : length sites ≡ 2 = sym (length-map sites (λ s. s.name)) ∙ ap length names in
+    record {
+      some = omega (arith, two);
+      most = omega (arith, two);
+      named = rw names refl;
+      different = rw names distinct_two;
     }

@@ -1,9 +1,12 @@
-use Rattle.std.proofs.Common.{◌≡◌, ◌≤◌}
-use Rattle.obq_model.specs.CommandLine.{bad_behind_command}
-use Rattle.obq_words.specs.Words.{bytes_of}
-use Rattle.obq_words.proofs.Sites.{told_from}
+use Rattle.std.proofs.Common.{drop, suc, take, ◌≡◌, ◌≤◌}
+use Rattle.obq_model.specs.CommandLine.{bad_behind_command, bad_behind_sites}
+use Rattle.obq_words.specs.Words.{bytes_of, names_in}
 use Rattle.obq_words.proofs.words.check_sites.Given as goal
 
--- the words that were read can stand, so what the others tell is what all tell
+-- the words that were read can stand, so the first fault of the others is the first of all
 abbrev pub invariant-loop-i : goal.invariant-loop-i
-invariant-loop-i l = record { few : l.i ≤ 16; same : bad_behind_command (bytes_of l.words) ≡ told_from l.i l.words }
+invariant-loop-i l =
+    record {
+      few : l.i ≤ 16;
+      same : bad_behind_command (bytes_of l.words) ≡ bad_behind_sites (suc l.i) (names_in (bytes_of (take l.i l.words))) (bytes_of (drop l.i l.words));
+    }
