@@ -138,8 +138,8 @@ fn read_sites(alloc: Global, words: &[String]) -> Result<Vec<SiteWord>, NoMemory
     Ok(sites)
 }
 
-/// What a command line asks for, or the first word that can't stand in its place. Memory is taken only
-/// where every word can stand.
+/// What a command line asks for, or the first word that can't stand in its place. Memory is taken
+/// only where every word can stand.
 pub fn read_words(alloc: Global, words: &[String]) -> Result<Order, WordsRefused>
     ensures { Answers (bytes_of words.now) result }
 {
