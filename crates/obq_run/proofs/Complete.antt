@@ -1,21 +1,27 @@
 -- A call on sources that are accepted is not refused where no count of faults rose.
-use Rattle.std.proofs.Common.{List, Option, Some, [], arith, length, refl, slice_get, subst, suc, zero, ℕ, ◌<◌, ◌≡◌, ◌≤◌, ◌∷◌}
+use Rattle.std.proofs.Common.{List, Option, Some, [], ap, arith, length, refl, slice_get, subst, suc, sym, zero, ℕ, ◌<◌, ◌≡◌, ◌≤◌, ◌∷◌}
 use Rattle.std.specs.Prelude.{IsSomeAnd}
 use Rattle.obq_base.specs.declared.faults.SourceFault.{SourceFault}
-use Rattle.obq_base.specs.declared.faults.SourceFault.TheVariants.{Lexical, Syntax}
+use Rattle.obq_base.specs.declared.faults.SourceFault.TheVariants.{Lexical, Syntax, Unbound}
 use Rattle.obq_base.specs.declared.tokens.Token.{Token}
 use Rattle.obq_base.specs.declared.trees.Block.{Block}
+use Rattle.obq_base.specs.View.{block_tree}
+use Rattle.obq_front.specs.Contents.{AllWithin}
 use Rattle.obq_grammar.proofs.Prefixes.{tree_and_fault}
+use Rattle.obq_grammar.proofs.Unique.{unique_block}
+use Rattle.obq_io.specs.Known.{IsIt, WhereTold}
 use Rattle.obq_model.proofs.Uniqueness.{no_fault_of_a_reading, one_reading}
+use Rattle.obq_base.specs.Tree.{BlockTree}
 use Rattle.obq_model.specs.Grammar.{Derives}
+use Rattle.obq_model.specs.Occurrences.{IsFirstUnbound, unbound}
 use Rattle.obq_model.specs.Tokens.{IsReading}
 use Rattle.obq_model.specs.PutTexts.{AreGroups, IsPutTexts, StopsAt}
 use Rattle.obq_model.specs.Sources.{AreAccepted, IsAccepted, IsFault, IsFirstRefused, here, later}
 use Rattle.obq_run.specs.declared.ends.Cause.{Cause}
-use Rattle.obq_run.specs.declared.ends.Cause.TheVariants.{Checked, NoMemory, NotYet, Ran, ReadFault, Refused, SourceTooLong, Usage, WriteFault}
+use Rattle.obq_run.specs.declared.ends.Cause.TheVariants.{Checked, NoMemory, NotYet, Ran, ReadFault, Refused, SourceTooLong, TooManySites, Usage, WriteFault}
 use Rattle.obq_run.specs.Ends.{IfNotYet, IfReadFault, IfRefused, IfTooLong, IsCheckRefusal, IsRunRefusal}
-use Rattle.obq_run.specs.Known.{AreHeld, AreTold, IsIt, WhereTold}
-use Rattle.obq_run.specs.Runs.{AllWithin, CheckCompletes, IsNotYet, IsNotYetOf, IsRefusalOf, NoneRose, NotYetCompletes, OnlyWrite, RunCompletes}
+use Rattle.obq_run.specs.Held.{AreHeld, AreTold}
+use Rattle.obq_run.specs.Runs.{CheckCompletes, IsNotYetOf, IsRefusalOf, NoneRose, NotYetCompletes, OnlyWrites, RunCompletes, StopsRun}
 use Rattle.obq_run.proofs.PutHistory.{accepted_texts}
 use Rattle.obq_run.proofs.PutTexts.{not_both}
 
@@ -53,10 +59,22 @@ too_long_at holds limit (p ∷ ps) (s ∷ ss) (suc k) told within h = too_long_a
 
 -- ---- what is accepted has no fault
 
+-- tokens derive one tree
+same_tree : (tokens : List Token) (a b : Block) → Derives tokens a → Derives tokens b → a ≡ b
+same_tree tokens a b p q = let u = unique_block p.1 tt b _ q.1 tt in u.0
+
+-- a tree without an unbound name has no first one
+none_unbound : (tree : BlockTree) (name : List ℕ) (place : ℕ) → unbound tree ≡ [] → IsFirstUnbound tree name place → ⊥
+none_unbound tree name place none first = let lt : first.found.0 < length (unbound tree) = first.found.1 in absurd (omega (arith, lt, ap length none))
+
 not_faulty : (source : List ℕ) (tokens : List Token) (tree : Block) (fault : SourceFault) → IsAccepted source tokens tree → IsFault source fault → ⊥
 not_faulty source tokens tree (Lexical kind place) accepted fault = no_fault_of_a_reading source tokens kind place accepted.reading fault
 not_faulty source tokens tree (Syntax k) accepted (others, is_read, fault) =
     tree_and_fault others tree k (subst (λ ts. Derives ts tree) (one_reading source tokens others accepted.reading is_read) accepted.derived) fault
+not_faulty source tokens tree (Unbound name place) accepted (others, other, is_read, derived, first) =
+    let same : others ≡ tokens = one_reading source others tokens is_read accepted.reading in
+    let is : other ≡ tree = same_tree tokens other tree (subst (λ ts. Derives ts other) same derived) accepted.derived in
+    none_unbound (block_tree tree) name place accepted.bound (subst (λ t. IsFirstUnbound (block_tree t) name place) is first)
 
 not_refused : {sources : List (List ℕ)} {k : ℕ} {fault : SourceFault} → (trees : List Block) → AreAccepted sources trees → IsFirstRefused sources k fault → ⊥
 not_refused [] accepted (here h) = absurd accepted
@@ -75,19 +93,16 @@ stops_not : {tokens others : List Token} (texts : List (List ℕ)) (k : ℕ) →
 stops_not {tokens} {others} texts k e (rest, groups, end) (more, left, n, those, other, fault, count) =
     not_both groups (subst (λ ts. AreGroups more ts left) e those) end other fault
 
-one_of : (x y : List ℕ) → x ∷ [] ≡ y ∷ [] → x ≡ y
-one_of x y e = cc
-
-not_yet_not : (holds : List ℕ → Option (List ℕ)) (limit : ℕ) (paths : List (List ℕ)) (source : List ℕ) (tokens : List Token) (texts : List (List ℕ)) (k : ℕ)
-    → AreTold holds paths (source ∷ []) → IsReading source tokens → IsPutTexts tokens texts → IsNotYetOf holds limit paths k → ⊥
-not_yet_not holds limit paths source tokens texts k told is_read form h =
-    let is : h.source ≡ source = one_of h.source source (same_sources holds limit paths (source ∷ []) (h.source ∷ []) told h.held) in
-    let is_read_too : IsReading source h.not_yet.tokens = subst (λ s. IsReading s h.not_yet.tokens) is h.not_yet.accepted.reading in
-    stops_not texts k (one_reading source h.not_yet.tokens tokens is_read_too is_read) form h.not_yet.stops
+not_yet_not : (holds : List ℕ → Option (List ℕ)) (limit : ℕ) (paths : List (List ℕ)) (source : List ℕ) (tokens : List Token) (texts : List (List ℕ)) (s k : ℕ)
+    → AreTold holds paths (source ∷ []) → IsReading source tokens → IsPutTexts tokens texts → IsNotYetOf holds limit paths s k → ⊥
+not_yet_not holds limit paths source tokens texts s k told is_read form h =
+    let stops : StopsRun (source ∷ []) s k = subst (λ ss. StopsRun ss s k) (same_sources holds limit paths (source ∷ []) h.sources told h.held) h.stops in
+    let others = stops.1.0 in
+    stops_not texts k (one_reading source others tokens stops.1.1 is_read) form stops.1.2
 
 pub run_refused : (holds : List ℕ → Option (List ℕ)) (limit : ℕ) (paths : List (List ℕ)) (Rises : List ℕ → Type 0) (output_rose : Type 0) (cause : Cause) → IsRunRefusal cause
     → IfReadFault cause (λ file. IsSomeAnd (slice_get paths file) Rises) → IfTooLong cause (λ s. IsSomeAnd (slice_get paths s) (λ p. WhereTold (holds p) (λ xs. limit < length xs)))
-    → IfRefused cause (IsRefusalOf holds limit paths) → IfNotYet cause (λ s k. (s ≡ 0) × IsNotYetOf holds limit paths k) → RunCompletes holds limit paths Rises output_rose cause
+    → IfRefused cause (IsRefusalOf holds limit paths) → IfNotYet cause (IsNotYetOf holds limit paths) → RunCompletes holds limit paths Rises output_rose cause
 run_refused holds limit paths Rises out NoMemory only read long faulty yet = λ source tokens texts told within is_read form none calm. tt
 run_refused holds limit paths Rises out (ReadFault file) only read long faulty yet = λ source tokens texts told within is_read form none calm. absurd (none_at Rises paths file none read)
 run_refused holds limit paths Rises out (SourceTooLong s) only read long faulty yet =
@@ -98,41 +113,43 @@ run_refused holds limit paths Rises out (Refused s fault) only read long faulty 
     absurd (refusal_not holds limit paths (source ∷ []) (tree.0 ∷ []) s fault told ((tokens, tree.1), tt) faulty)
     )
 run_refused holds limit paths Rises out (NotYet s k) only read long faulty yet =
-    λ source tokens texts told within is_read form none calm. absurd (not_yet_not holds limit paths source tokens texts k told is_read form yet.1)
+    λ source tokens texts told within is_read form none calm. absurd (not_yet_not holds limit paths source tokens texts s k told is_read form yet)
 run_refused holds limit paths Rises out Ran only read long faulty yet = absurd only
 run_refused holds limit paths Rises out Checked only read long faulty yet = absurd only
 run_refused holds limit paths Rises out (Usage word) only read long faulty yet = absurd only
+run_refused holds limit paths Rises out (TooManySites word) only read long faulty yet = absurd only
 run_refused holds limit paths Rises out WriteFault only read long faulty yet = absurd only
 
--- ---- a source that doesn't run yet
+-- ---- sources that don't run yet
 
 pub not_yet_refused : (holds : List ℕ → Option (List ℕ)) (limit : ℕ) (paths : List (List ℕ)) (Rises : List ℕ → Type 0) (output_rose : Type 0) (cause : Cause) → IsRunRefusal cause
     → IfReadFault cause (λ file. IsSomeAnd (slice_get paths file) Rises) → IfTooLong cause (λ s. IsSomeAnd (slice_get paths s) (λ p. WhereTold (holds p) (λ xs. limit < length xs)))
     → IfRefused cause (IsRefusalOf holds limit paths) → NotYetCompletes holds limit paths Rises output_rose cause
-not_yet_refused holds limit paths Rises out NoMemory only read long faulty = λ source k told within yet none calm. tt
-not_yet_refused holds limit paths Rises out (NotYet s j) only read long faulty = λ source k told within yet none calm. tt
-not_yet_refused holds limit paths Rises out (ReadFault file) only read long faulty = λ source k told within yet none calm. absurd (none_at Rises paths file none read)
-not_yet_refused holds limit paths Rises out (SourceTooLong s) only read long faulty =
-    λ source k told within yet none calm. absurd (too_long_at holds limit paths (source ∷ []) s told (within, tt) long)
-not_yet_refused holds limit paths Rises out (Refused s fault) only read long faulty =
-    λ source k told within yet none calm. absurd (refusal_not holds limit paths (source ∷ []) (yet.tree ∷ []) s fault told ((yet.tokens, yet.accepted), tt) faulty)
+not_yet_refused holds limit paths Rises out NoMemory only read long faulty = λ sources trees s k told within accepted stops none calm. tt
+not_yet_refused holds limit paths Rises out (NotYet t j) only read long faulty = λ sources trees s k told within accepted stops none calm. tt
+not_yet_refused holds limit paths Rises out (ReadFault file) only read long faulty = λ sources trees s k told within accepted stops none calm. absurd (none_at Rises paths file none read)
+not_yet_refused holds limit paths Rises out (SourceTooLong t) only read long faulty =
+    λ sources trees s k told within accepted stops none calm. absurd (too_long_at holds limit paths sources t told within long)
+not_yet_refused holds limit paths Rises out (Refused t fault) only read long faulty =
+    λ sources trees s k told within accepted stops none calm. absurd (refusal_not holds limit paths sources trees t fault told accepted faulty)
 not_yet_refused holds limit paths Rises out Ran only read long faulty = absurd only
 not_yet_refused holds limit paths Rises out Checked only read long faulty = absurd only
 not_yet_refused holds limit paths Rises out (Usage word) only read long faulty = absurd only
+not_yet_refused holds limit paths Rises out (TooManySites word) only read long faulty = absurd only
 not_yet_refused holds limit paths Rises out WriteFault only read long faulty = absurd only
 
--- what ran only writes texts
-form_not : (holds : List ℕ → Option (List ℕ)) (limit : ℕ) (paths sources : List (List ℕ)) (source : List ℕ) (k : ℕ) → AreTold holds paths (source ∷ []) → AreHeld holds limit paths sources → OnlyWrite sources
-    → IsNotYet source k → ⊥
-form_not holds limit paths sources source k told held form yet =
-    let one : OnlyWrite (source ∷ []) = subst OnlyWrite (same_sources holds limit paths (source ∷ []) sources told held) form in
-    let tokens = one.0.0 in
-    let texts = one.0.1 in
-    stops_not texts k (one_reading source yet.tokens tokens yet.accepted.reading one.0.2) one.0.3 yet.stops
+-- what ran is one source that only writes texts
+form_not : (holds : List ℕ → Option (List ℕ)) (limit : ℕ) (paths : List (List ℕ)) (source : List ℕ) (sources : List (List ℕ)) (s k : ℕ) → AreTold holds paths sources → AreHeld holds limit paths (source ∷ [])
+    → OnlyWrites source → StopsRun sources s k → ⊥
+form_not holds limit paths source sources s k told held form stops =
+    let one : StopsRun (source ∷ []) s k = subst (λ ss. StopsRun ss s k) (sym (same_sources holds limit paths sources (source ∷ []) told held)) stops in
+    let tokens = form.0 in
+    let texts = form.1 in
+    stops_not texts k (one_reading source one.1.0 tokens one.1.1 form.2) form.3 one.1.2
 
-pub not_yet_finished : (holds : List ℕ → Option (List ℕ)) (limit : ℕ) (paths sources : List (List ℕ)) (Rises : List ℕ → Type 0) (output_rose : Type 0) (cause : Cause) → AreHeld holds limit paths sources
-    → OnlyWrite sources → NotYetCompletes holds limit paths Rises output_rose cause
-not_yet_finished holds limit paths sources Rises out cause held form = λ source k told within yet none calm. absurd (form_not holds limit paths sources source k told held form yet)
+pub not_yet_finished : (holds : List ℕ → Option (List ℕ)) (limit : ℕ) (paths : List (List ℕ)) (source : List ℕ) (Rises : List ℕ → Type 0) (output_rose : Type 0) (cause : Cause)
+    → AreHeld holds limit paths (source ∷ []) → OnlyWrites source → NotYetCompletes holds limit paths Rises output_rose cause
+not_yet_finished holds limit paths source Rises out cause held form = λ sources trees s k told within accepted stops none calm. absurd (form_not holds limit paths source sources s k told held form stops)
 
 -- ---- a check
 
@@ -149,4 +166,5 @@ check_refused holds limit paths Rises out (NotYet s k) only read long faulty = a
 check_refused holds limit paths Rises out Ran only read long faulty = absurd only
 check_refused holds limit paths Rises out Checked only read long faulty = absurd only
 check_refused holds limit paths Rises out (Usage word) only read long faulty = absurd only
+check_refused holds limit paths Rises out (TooManySites word) only read long faulty = absurd only
 check_refused holds limit paths Rises out WriteFault only read long faulty = absurd only

@@ -1,12 +1,12 @@
--- Sources that were read are as many as their sites.
+-- Sources that were read are as many as their sites, and within the limit.
 use Rattle.std.proofs.Common.{List, Option, [], ap, arith, get_or, length, map, refl, suc, sym, ℕ, ◌≡◌, ◌∙◌, ◌∷◌}
 use Rattle.std.proofs.lemmas.List.{length-map}
-use Rattle.std.specs.Global.{Vec}
 use Rattle.std.specs.String.{string_bytes}
-use Rattle.obq_run.specs.Contents.{contents}
-use Rattle.obq_run.specs.Known.{AreHeld}
-use Rattle.obq_run.specs.declared.words.SiteWord.{SiteWord}
-use Rattle.obq_run.specs.Words.{paths_of}
+use Rattle.obq_front.specs.Contents.{AllWithin, contents}
+use Rattle.obq_front.specs.declared.program.Source.{Source}
+use Rattle.obq_run.specs.Held.{AreHeld}
+use Rattle.obq_words.specs.declared.words.SiteWord.{SiteWord}
+use Rattle.obq_words.specs.Words.{paths_of}
 
 pub held_length : (holds : List ℕ → Option (List ℕ)) (limit : ℕ) (paths sources : List (List ℕ)) → AreHeld holds limit paths sources → length sources ≡ length paths
 held_length holds limit [] [] h = refl
@@ -15,11 +15,18 @@ held_length holds limit [] (s ∷ ss) h = absurd h
 held_length holds limit (p ∷ ps) [] h = absurd h
 
 -- the sources that were read are as many as the sites
-pub as_many : (holds : List ℕ → Option (List ℕ)) (limit : ℕ) (sites : List SiteWord) (sources : List (Vec ℕ)) → AreHeld holds limit (paths_of sites) (contents sources) → length sources ≡ length sites
-as_many holds limit sites sources h = sym (length-map sources (λ s. s.items)) ∙ (held_length holds limit (paths_of sites) (contents sources) h ∙ length-map sites (λ s. string_bytes s.path))
+pub as_many : (holds : List ℕ → Option (List ℕ)) (limit : ℕ) (sites : List SiteWord) (sources : List Source) → AreHeld holds limit (paths_of sites) (contents sources) → length sources ≡ length sites
+as_many holds limit sites sources h = sym (length-map sources (λ s. s.bytes.items)) ∙ (held_length holds limit (paths_of sites) (contents sources) h ∙ length-map sites (λ s. string_bytes s.path))
 
 -- a list of one
 pub only_one : {A B : Type 0} (f : A → B) (xs : List A) (x : A) → length xs ≡ 1 → x ≡ get_or xs 0 x → map f xs ≡ f x ∷ []
 only_one f [] x one is = absurd (omega (arith, one))
 only_one f (y ∷ []) x one is = ap (λ v. f v ∷ []) (sym is)
 only_one f (y ∷ z ∷ ys) x one is = absurd (omega (arith, one))
+
+-- each source is within the limit
+pub within_held : (holds : List ℕ → Option (List ℕ)) (limit : ℕ) (paths sources : List (List ℕ)) → AreHeld holds limit paths sources → AllWithin limit sources
+within_held holds limit [] [] held = tt
+within_held holds limit (p ∷ ps) (s ∷ ss) held = (held.1, within_held holds limit ps ss held.2)
+within_held holds limit [] (s ∷ ss) held = absurd held
+within_held holds limit (p ∷ ps) [] held = absurd held

@@ -1,9 +1,6 @@
 pub mod Complete
-pub mod Examined
 pub mod Held
-pub mod InForm
 pub mod Printed
 pub mod PutHistory
 pub mod PutTexts
-pub mod Told
 pub mod Unruns

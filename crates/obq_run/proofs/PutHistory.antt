@@ -1,16 +1,17 @@
 -- A source that only writes texts has the journal that the run makes.
-use Rattle.std.proofs.Common.{List, [], ap, ap₂, arith, codes, length, map, refl, subst, sym, ℕ, ◌*◌, ◌+◌, ◌≡◌, ◌≤◌, ◌∙◌, ◌∷◌}
-use Rattle.std.specs.List.{flat_map}
+use Rattle.std.proofs.Common.{List, [], ap, ap₂, arith, codes, length, map, not, refl, subst, sym, ℕ, ◌*◌, ◌+◌, ◌≡◌, ◌≤◌, ◌∙◌, ◌∷◌}
+use Rattle.std.specs.List.{filter, flat_map}
 use Rattle.obq_base.specs.declared.tokens.Token.{Token}
 use Rattle.obq_base.specs.declared.tokens.TokenKind.TheVariants as kind
 use Rattle.obq_base.specs.declared.trees.Block.{Block}
 use Rattle.obq_base.specs.View.{block_tree}
 use Rattle.obq_laws.proofs.Printing.{joined_texts, print_turns_enough, prints_texts}
-use Rattle.obq_laws.specs.Printing.{Print, joined_after, later_entries, print_entries, print_turns, printed_config, printing}
+use Rattle.obq_laws.specs.Printing.{Print, joined_after, later_entries, print_entries, print_items, print_turns, printed_config, printing}
 use Rattle.obq_model.proofs.Uniqueness.{ended}
 use Rattle.obq_model.proofs.Widths.{reading_width, width_of-cons}
 use Rattle.obq_model.specs.Grammar.{Derives, IsBlock}
 use Rattle.obq_model.specs.Nodes.{block, place, token}
+use Rattle.obq_model.specs.Occurrences.{builtin_row, free_items, is_predefined, unbound}
 use Rattle.obq_model.specs.PutTexts.{AreGroups, IsPutTexts, group, no_group}
 use Rattle.obq_model.specs.Replay.{TakeTurns, replay}
 use Rattle.obq_model.specs.Sources.{IsAccepted}
@@ -75,10 +76,20 @@ derived_of {source} {tokens} is_read (rest, groups, end) =
     let last : (p : ℕ) × (rest ≡ token kind.EndOfSource p ∷ []) = end_alone rest end (ended_rest groups (ended source tokens is_read)) in
     (last.0, subst (λ r. IsBlock tree tokens r) last.1 prints.block)
 
+-- ---- each name is predefined
+
+prints_bound : (ps : List Print) → filter (λ o. not (is_predefined o)) (free_items [] (print_items ps)) ≡ []
+unfolding builtin_row
+prints_bound [] = refl
+prints_bound (p ∷ ps) = prints_bound ps
+
+bound_texts : (ps : List Print) (place : ℕ) → unbound (block_tree (block (map item_of ps) place)) ≡ []
+bound_texts ps place = subst (λ t. unbound t ≡ []) (sym (tree_is ps place)) (prints_bound ps)
+
 -- a source that only writes texts is accepted
 pub accepted_texts : (source : List ℕ) (tokens : List Token) (texts : List (List ℕ)) → IsReading source tokens → IsPutTexts tokens texts → (tree : Block) × IsAccepted source tokens tree
 accepted_texts source tokens texts is_read form =
-    (block (map item_of (groups_print form.1).prints) (place tokens), record { reading = is_read; derived = derived_of is_read form })
+    (block (map item_of (groups_print form.1).prints) (place tokens), record { reading = is_read; derived = derived_of is_read form; bound = bound_texts (groups_print form.1).prints (place tokens) })
 
 -- a source that only writes texts ran to its end, with the journal of its texts
 pub end_of : (source : List ℕ) (tokens : List Token) (texts : List (List ℕ)) → IsReading source tokens → IsPutTexts tokens texts → length source ≤ 1048576
@@ -96,7 +107,7 @@ end_of source tokens texts is_read (rest, groups, end) within =
     let run = prints_texts ps (place tokens) 100000 fits in
     record {
       trees = tree ∷ [];
-      accepted = ((tokens, record { reading = is_read; derived = derived }), tt);
+      accepted = ((tokens, record { reading = is_read; derived = derived; bound = bound_texts ps (place tokens) }), tt);
       last = printed_config (joined_after [] ps) (print_turns ps);
       limit = refl;
       replays = ap₂ (λ ts es. replay ts 100000 es) trees (sym entries) ∙ run.0;

@@ -1,24 +1,23 @@
 -- Words on the cause of an end.
 use Rattle.std.specs.Prelude.{List, [], slice_index_or, ℕ, ⊤}
 use Rattle.obq_base.specs.declared.faults.SourceFault.{SourceFault}
-use Rattle.obq_model.specs.Output.{no_memory_line, not_yet_line, read_fault_line, refused_line, too_long_line, usage_line, write_fault_line}
+use Rattle.obq_front.specs.declared.program.FrontRefused.{FrontRefused}
+use Rattle.obq_front.specs.declared.program.FrontRefused.TheVariants as front
+use Rattle.obq_io.specs.declared.reading.Unread.{Unread}
+use Rattle.obq_io.specs.declared.reading.Unread.TheVariants as unread
+use Rattle.obq_model.specs.Output.{no_memory_line, not_yet_line, read_fault_line, refused_line, too_long_line, too_many_line, usage_line, write_fault_line}
 use Rattle.obq_run.specs.declared.ends.Cause.{Cause}
-use Rattle.obq_run.specs.declared.ends.Cause.TheVariants.{Checked, NoMemory, NotYet, Ran, ReadFault, Refused, SourceTooLong, Usage, WriteFault}
-use Rattle.obq_run.specs.declared.reading.Unread.{Unread}
-use Rattle.obq_run.specs.declared.reading.Unread.TheVariants as unread
+use Rattle.obq_run.specs.declared.ends.Cause.TheVariants.{Checked, NoMemory, NotYet, Ran, ReadFault, Refused, SourceTooLong, TooManySites, Usage, WriteFault}
 use Rattle.obq_run.specs.declared.reading.Stopped.{Stopped}
 use Rattle.obq_run.specs.declared.run.Unrun.{Unrun}
 use Rattle.obq_run.specs.declared.run.Unrun.TheVariants as unrun
-use Rattle.obq_run.specs.declared.sources.Unaccepted.{Unaccepted}
-use Rattle.obq_run.specs.declared.sources.Unaccepted.TheVariants as unaccepted
-use Rattle.obq_run.specs.declared.sources.Refusal.{Refusal}
-use Rattle.obq_run.specs.declared.sources.Refusal.TheVariants as refusal
 
 -- the status of a call that ended so, where a run ended with every thread ended by a value
 abbrev pub status_of : Cause → ℕ
 status_of Ran = 0
 status_of Checked = 0
 status_of (Usage word) = 2
+status_of (TooManySites word) = 7
 status_of (SourceTooLong source) = 7
 status_of (Refused source fault) = 3
 status_of (NotYet source token) = 9
@@ -31,6 +30,7 @@ abbrev pub line_of : List (List ℕ) → Cause → List ℕ
 line_of names Ran = []
 line_of names Checked = []
 line_of names (Usage word) = usage_line word
+line_of names (TooManySites word) = too_many_line word
 line_of names (SourceTooLong source) = too_long_line (slice_index_or names source [])
 line_of names (Refused source fault) = refused_line (slice_index_or names source []) fault
 line_of names (NotYet source token) = not_yet_line (slice_index_or names source []) token
@@ -43,6 +43,7 @@ abbrev pub IsRefusal : Cause → Type 0
 IsRefusal Ran = ⊥
 IsRefusal Checked = ⊥
 IsRefusal (Usage word) = ⊤
+IsRefusal (TooManySites word) = ⊤
 IsRefusal (SourceTooLong source) = ⊤
 IsRefusal (Refused source fault) = ⊤
 IsRefusal (NotYet source token) = ⊤
@@ -50,23 +51,25 @@ IsRefusal (ReadFault file) = ⊤
 IsRefusal WriteFault = ⊥
 IsRefusal NoMemory = ⊤
 
--- the words were refused with this number, or were in form, as P and Q say
-abbrev pub MatchUsage : Cause → (ℕ → Type 0) → Type 0 → Type 0
-MatchUsage Ran P Q = Q
-MatchUsage Checked P Q = Q
-MatchUsage (Usage word) P Q = P word
-MatchUsage (SourceTooLong source) P Q = Q
-MatchUsage (Refused source fault) P Q = Q
-MatchUsage (NotYet source token) P Q = Q
-MatchUsage (ReadFault file) P Q = Q
-MatchUsage WriteFault P Q = Q
-MatchUsage NoMemory P Q = Q
+-- the words were refused at this one, or for too many sites at this one, or were in form, as P, T and Q say
+abbrev pub MatchWords : Cause → (ℕ → Type 0) → (ℕ → Type 0) → Type 0 → Type 0
+MatchWords Ran P T Q = Q
+MatchWords Checked P T Q = Q
+MatchWords (Usage word) P T Q = P word
+MatchWords (TooManySites word) P T Q = T word
+MatchWords (SourceTooLong source) P T Q = Q
+MatchWords (Refused source fault) P T Q = Q
+MatchWords (NotYet source token) P T Q = Q
+MatchWords (ReadFault file) P T Q = Q
+MatchWords WriteFault P T Q = Q
+MatchWords NoMemory P T Q = Q
 
 -- P holds of the source that is too long
 abbrev pub IfTooLong : Cause → (ℕ → Type 0) → Type 0
 IfTooLong Ran P = ⊤
 IfTooLong Checked P = ⊤
 IfTooLong (Usage word) P = ⊤
+IfTooLong (TooManySites word) P = ⊤
 IfTooLong (SourceTooLong source) P = P source
 IfTooLong (Refused source fault) P = ⊤
 IfTooLong (NotYet source token) P = ⊤
@@ -79,6 +82,7 @@ abbrev pub IfRefused : Cause → (ℕ → SourceFault → Type 0) → Type 0
 IfRefused Ran P = ⊤
 IfRefused Checked P = ⊤
 IfRefused (Usage word) P = ⊤
+IfRefused (TooManySites word) P = ⊤
 IfRefused (SourceTooLong source) P = ⊤
 IfRefused (Refused source fault) P = P source fault
 IfRefused (NotYet source token) P = ⊤
@@ -91,6 +95,7 @@ abbrev pub IfNotYet : Cause → (ℕ → ℕ → Type 0) → Type 0
 IfNotYet Ran P = ⊤
 IfNotYet Checked P = ⊤
 IfNotYet (Usage word) P = ⊤
+IfNotYet (TooManySites word) P = ⊤
 IfNotYet (SourceTooLong source) P = ⊤
 IfNotYet (Refused source fault) P = ⊤
 IfNotYet (NotYet source token) P = P source token
@@ -103,6 +108,7 @@ abbrev pub IfReadFault : Cause → (ℕ → Type 0) → Type 0
 IfReadFault Ran P = ⊤
 IfReadFault Checked P = ⊤
 IfReadFault (Usage word) P = ⊤
+IfReadFault (TooManySites word) P = ⊤
 IfReadFault (SourceTooLong source) P = ⊤
 IfReadFault (Refused source fault) P = ⊤
 IfReadFault (NotYet source token) P = ⊤
@@ -115,6 +121,7 @@ abbrev pub OnWriteFault : Cause → Type 0 → Type 0
 OnWriteFault Ran P = ⊤
 OnWriteFault Checked P = ⊤
 OnWriteFault (Usage word) P = ⊤
+OnWriteFault (TooManySites word) P = ⊤
 OnWriteFault (SourceTooLong source) P = ⊤
 OnWriteFault (Refused source fault) P = ⊤
 OnWriteFault (NotYet source token) P = ⊤
@@ -127,6 +134,7 @@ abbrev pub OnRan : Cause → Type 0 → Type 0
 OnRan Ran P = P
 OnRan Checked P = ⊤
 OnRan (Usage word) P = ⊤
+OnRan (TooManySites word) P = ⊤
 OnRan (SourceTooLong source) P = ⊤
 OnRan (Refused source fault) P = ⊤
 OnRan (NotYet source token) P = ⊤
@@ -139,6 +147,7 @@ abbrev pub IsRunEnd : Cause → Type 0
 IsRunEnd Ran = ⊤
 IsRunEnd Checked = ⊥
 IsRunEnd (Usage word) = ⊥
+IsRunEnd (TooManySites word) = ⊥
 IsRunEnd (SourceTooLong source) = ⊤
 IsRunEnd (Refused source fault) = ⊤
 IsRunEnd (NotYet source token) = ⊤
@@ -151,6 +160,7 @@ abbrev pub IsRunRefusal : Cause → Type 0
 IsRunRefusal Ran = ⊥
 IsRunRefusal Checked = ⊥
 IsRunRefusal (Usage word) = ⊥
+IsRunRefusal (TooManySites word) = ⊥
 IsRunRefusal (SourceTooLong source) = ⊤
 IsRunRefusal (Refused source fault) = ⊤
 IsRunRefusal (NotYet source token) = ⊤
@@ -163,6 +173,7 @@ abbrev pub OnChecked : Cause → Type 0 → Type 0
 OnChecked Ran P = ⊤
 OnChecked Checked P = P
 OnChecked (Usage word) P = ⊤
+OnChecked (TooManySites word) P = ⊤
 OnChecked (SourceTooLong source) P = ⊤
 OnChecked (Refused source fault) P = ⊤
 OnChecked (NotYet source token) P = ⊤
@@ -175,6 +186,7 @@ abbrev pub IsCheckEnd : Cause → Type 0
 IsCheckEnd Ran = ⊥
 IsCheckEnd Checked = ⊤
 IsCheckEnd (Usage word) = ⊥
+IsCheckEnd (TooManySites word) = ⊥
 IsCheckEnd (SourceTooLong source) = ⊤
 IsCheckEnd (Refused source fault) = ⊤
 IsCheckEnd (NotYet source token) = ⊥
@@ -187,6 +199,7 @@ abbrev pub IsCheckRefusal : Cause → Type 0
 IsCheckRefusal Ran = ⊥
 IsCheckRefusal Checked = ⊥
 IsCheckRefusal (Usage word) = ⊥
+IsCheckRefusal (TooManySites word) = ⊥
 IsCheckRefusal (SourceTooLong source) = ⊤
 IsCheckRefusal (Refused source fault) = ⊤
 IsCheckRefusal (NotYet source token) = ⊥
@@ -199,6 +212,7 @@ abbrev pub IsCheckFinish : Cause → Type 0
 IsCheckFinish Ran = ⊥
 IsCheckFinish Checked = ⊤
 IsCheckFinish (Usage word) = ⊥
+IsCheckFinish (TooManySites word) = ⊥
 IsCheckFinish (SourceTooLong source) = ⊥
 IsCheckFinish (Refused source fault) = ⊥
 IsCheckFinish (NotYet source token) = ⊥
@@ -211,6 +225,7 @@ abbrev pub IsCheckedOrNoMemory : Cause → Type 0
 IsCheckedOrNoMemory Ran = ⊥
 IsCheckedOrNoMemory Checked = ⊤
 IsCheckedOrNoMemory (Usage word) = ⊥
+IsCheckedOrNoMemory (TooManySites word) = ⊥
 IsCheckedOrNoMemory (SourceTooLong source) = ⊥
 IsCheckedOrNoMemory (Refused source fault) = ⊥
 IsCheckedOrNoMemory (NotYet source token) = ⊥
@@ -223,6 +238,7 @@ abbrev pub IsRanOrNoMemory : Cause → Type 0
 IsRanOrNoMemory Ran = ⊤
 IsRanOrNoMemory Checked = ⊥
 IsRanOrNoMemory (Usage word) = ⊥
+IsRanOrNoMemory (TooManySites word) = ⊥
 IsRanOrNoMemory (SourceTooLong source) = ⊥
 IsRanOrNoMemory (Refused source fault) = ⊥
 IsRanOrNoMemory (NotYet source token) = ⊥
@@ -235,6 +251,7 @@ abbrev pub IsNotYetOrNoMemory : Cause → Type 0
 IsNotYetOrNoMemory Ran = ⊥
 IsNotYetOrNoMemory Checked = ⊥
 IsNotYetOrNoMemory (Usage word) = ⊥
+IsNotYetOrNoMemory (TooManySites word) = ⊥
 IsNotYetOrNoMemory (SourceTooLong source) = ⊥
 IsNotYetOrNoMemory (Refused source fault) = ⊥
 IsNotYetOrNoMemory (NotYet source token) = ⊤
@@ -242,17 +259,12 @@ IsNotYetOrNoMemory (ReadFault file) = ⊥
 IsNotYetOrNoMemory WriteFault = ⊥
 IsNotYetOrNoMemory NoMemory = ⊤
 
--- a file wasn't read because of a fault, or because it is too long, as P and Q say; for want of memory anything may hold
-abbrev pub MatchUnread : Unread → Type 0 → Type 0 → Type 0
-MatchUnread unread.Fault P Q = P
-MatchUnread unread.TooLong P Q = Q
-MatchUnread unread.NoMemory P Q = ⊤
-
 -- it ran, and its output was written whole or not
 abbrev pub IsRunFinish : Cause → Type 0
 IsRunFinish Ran = ⊤
 IsRunFinish Checked = ⊥
 IsRunFinish (Usage word) = ⊥
+IsRunFinish (TooManySites word) = ⊥
 IsRunFinish (SourceTooLong source) = ⊥
 IsRunFinish (Refused source fault) = ⊥
 IsRunFinish (NotYet source token) = ⊥
@@ -269,28 +281,17 @@ unread_cause file unread.NoMemory = NoMemory
 abbrev pub stop_cause : Stopped → Cause
 stop_cause s = unread_cause s.file s.why
 
--- P holds of the fault of a source that was not run, or Q of the token
-abbrev pub IfUnrun : Unrun → (SourceFault → Type 0) → (ℕ → Type 0) → Type 0
-IfUnrun (unrun.Fault fault) P Q = P fault
-IfUnrun (unrun.NotYet token) P Q = Q token
-IfUnrun unrun.NoMemory P Q = ⊤
+-- P holds of the token where a source was not run
+abbrev pub IfUnrun : Unrun → (ℕ → Type 0) → Type 0
+IfUnrun (unrun.NotYet token) P = P token
+IfUnrun unrun.NoMemory P = ⊤
 
--- the cause where the first source was not run
+-- the cause where the one source was not run
 abbrev pub unrun_cause : Unrun → Cause
-unrun_cause (unrun.Fault fault) = Refused 0 fault
 unrun_cause (unrun.NotYet token) = NotYet 0 token
 unrun_cause unrun.NoMemory = NoMemory
 
--- P holds of the fault of a source that isn't accepted
-abbrev pub IfFault : Unaccepted → (SourceFault → Type 0) → Type 0
-IfFault (unaccepted.Fault fault) P = P fault
-IfFault unaccepted.NoMemory P = ⊤
-
--- P holds of the source that is refused, and of its fault
-abbrev pub IfRefusal : Refusal → (ℕ → SourceFault → Type 0) → Type 0
-IfRefusal (refusal.Fault source fault) P = P source fault
-IfRefusal refusal.NoMemory P = ⊤
-
-abbrev pub refusal_cause : Refusal → Cause
-refusal_cause (refusal.Fault source fault) = Refused source fault
-refusal_cause refusal.NoMemory = NoMemory
+-- the cause where sources aren't accepted
+abbrev pub refusal_cause : FrontRefused → Cause
+refusal_cause (front.Refused source fault) = Refused source fault
+refusal_cause front.NoMemory = NoMemory

@@ -1,7 +1,5 @@
-pub mod Contents
 pub mod Ends
+pub mod Held
 pub mod History
-pub mod Known
 pub mod Pieces
 pub mod Runs
-pub mod Words

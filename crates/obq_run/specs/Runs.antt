@@ -6,17 +6,18 @@ use Rattle.obq_base.specs.declared.faults.SourceFault.{SourceFault}
 use Rattle.obq_base.specs.declared.tokens.Token.{Token}
 use Rattle.obq_base.specs.declared.trees.Block.{Block}
 use Rattle.obq_base.specs.View.{block_tree}
+use Rattle.obq_front.specs.Contents.{AllWithin}
 use Rattle.obq_model.specs.Config.{Config, Failed, Returned, Running, ThreadState}
 use Rattle.obq_model.specs.Journal.{Journal}
 use Rattle.obq_model.specs.Output.{run_text}
 use Rattle.obq_model.specs.PutTexts.{IsPutTexts, StopsAt}
 use Rattle.obq_model.specs.Replay.{IsOver, TakeTurns, output, replay, report, status}
-use Rattle.obq_model.specs.Sources.{AreAccepted, IsAccepted, IsFirstRefused}
+use Rattle.obq_model.specs.Sources.{AreAccepted, IsFirstRefused}
 use Rattle.obq_model.specs.Tokens.{IsReading}
 use Rattle.obq_run.specs.declared.ends.Cause.{Cause}
 use Rattle.obq_run.specs.declared.history.Ran.{Ran}
 use Rattle.obq_run.specs.Ends.{IsCheckedOrNoMemory, IsNotYetOrNoMemory, IsRanOrNoMemory}
-use Rattle.obq_run.specs.Known.{AreHeld, AreTold}
+use Rattle.obq_run.specs.Held.{AreHeld, AreTold}
 
 -- one thread, which has ended by a value
 abbrev pub one_ended : Report
@@ -52,18 +53,16 @@ pub record IsRunOf (holds : List ℕ → Option (List ℕ)) (limit : ℕ) (names
   pub output_text : text ≡ run_text (zip names outputs) threads
   pub report_status : ended_status ≡ status threads
 
--- each source has tokens that only write texts
-abbrev pub OnlyWrite : List (List ℕ) → Type 0
-OnlyWrite [] = Unit {0}
-OnlyWrite (source ∷ sources) = ((tokens : List Token) × (texts : List (List ℕ)) × IsReading source tokens × IsPutTexts tokens texts) × OnlyWrite sources
+-- the source has tokens that only write texts
+abbrev pub OnlyWrites : List ℕ → Type 0
+OnlyWrites source = (tokens : List Token) × (texts : List (List ℕ)) × IsReading source tokens × IsPutTexts tokens texts
 
--- Sources within the limit, which are what the paths hold where they tell that, run with this journal, and the writer of the first has these
--- bytes.
+-- One source within the limit, which is what the path holds where it tells that, runs with this journal, and its writer has these bytes.
 pub record RunsOf (holds : List ℕ → Option (List ℕ)) (limit : ℕ) (paths : List (List ℕ)) (turns : ℕ) (ran : Ran) : Type 0 where
-  pub sources : List (List ℕ)
-  pub held : AreHeld holds limit paths sources
-  pub form : OnlyWrite sources
-  pub end : IsEndOf sources turns ran.journal (ran.bytes.items ∷ []) one_ended
+  pub source : List ℕ
+  pub held : AreHeld holds limit paths (source ∷ [])
+  pub form : OnlyWrites source
+  pub end : IsEndOf (source ∷ []) turns ran.journal (ran.bytes.items ∷ []) one_ended
 
 -- Of sources within the limit, which are what the paths hold where they tell that, this one is the first that has a fault, and this is its first.
 pub record IsRefusalOf (holds : List ℕ → Option (List ℕ)) (limit : ℕ) (paths : List (List ℕ)) (k : ℕ) (fault : SourceFault) : Type 0 where
@@ -78,28 +77,25 @@ pub record IsCheckOf (holds : List ℕ → Option (List ℕ)) (limit : ℕ) (pat
   pub trees : List Block
   pub accepted : AreAccepted sources trees
 
--- the source is accepted, and this of its tokens is the first that differs from those of a source that runs
-pub record IsNotYet (source : List ℕ) (k : ℕ) : Type 0 where
-  pub tokens : List Token
-  pub tree : Block
-  pub accepted : IsAccepted source tokens tree
-  pub stops : StopsAt tokens k
+-- the source and its token that stop sources from being run, so far: of one source the first token that differs from those of a source that
+-- runs, of several the first token of the second
+abbrev pub StopsRun : List (List ℕ) → ℕ → ℕ → Type 0
+StopsRun [] s k = ⊥
+StopsRun (source ∷ []) s k = (s ≡ 0) × ((tokens : List Token) × IsReading source tokens × StopsAt tokens k)
+StopsRun (source ∷ second ∷ sources) s k = (s ≡ 1) × (k ≡ 0)
 
--- One source within the limit, which is what the path holds where it tells that, is not run yet because of this token.
-pub record IsNotYetOf (holds : List ℕ → Option (List ℕ)) (limit : ℕ) (paths : List (List ℕ)) (k : ℕ) : Type 0 where
-  pub source : List ℕ
-  pub held : AreHeld holds limit paths (source ∷ [])
-  pub not_yet : IsNotYet source k
+-- Sources within the limit, which are what the paths hold where they tell that, are accepted, and aren't run yet because of this token of this one.
+pub record IsNotYetOf (holds : List ℕ → Option (List ℕ)) (limit : ℕ) (paths : List (List ℕ)) (s k : ℕ) : Type 0 where
+  pub sources : List (List ℕ)
+  pub held : AreHeld holds limit paths sources
+  pub trees : List Block
+  pub accepted : AreAccepted sources trees
+  pub stops : StopsRun sources s k
 
 -- no path's count of faults rose
 abbrev pub NoneRose : (List ℕ → Type 0) → List (List ℕ) → Type 0
 NoneRose Rises [] = Unit {0}
 NoneRose Rises (path ∷ paths) = ¬ (Rises path) × NoneRose Rises paths
-
--- each source is within the limit
-abbrev pub AllWithin : ℕ → List (List ℕ) → Type 0
-AllWithin limit [] = Unit {0}
-AllWithin limit (source ∷ sources) = (length source ≤ limit) × AllWithin limit sources
 
 -- Where the path holds a source within the limit whose tokens only write texts, and no count of faults rose, it ran, or there was no memory.
 abbrev pub RunCompletes : (List ℕ → Option (List ℕ)) → ℕ → List (List ℕ) → (List ℕ → Type 0) → Type 0 → Cause → Type 0
@@ -107,11 +103,12 @@ RunCompletes holds limit paths Rises output_rose cause =
     (source : List ℕ) (tokens : List Token) (texts : List (List ℕ)) → AreTold holds paths (source ∷ []) → (length source ≤ limit) → IsReading source tokens
     → IsPutTexts tokens texts → NoneRose Rises paths → ¬ output_rose → IsRanOrNoMemory cause
 
--- Where the path holds a source within the limit that is accepted and does more than write texts, and no count of faults rose, it doesn't run yet, or
--- there was no memory.
+-- Where the paths hold sources within the limit that are accepted, a token stops them from being run, and no count of faults rose, they aren't run
+-- yet, or there was no memory.
 abbrev pub NotYetCompletes : (List ℕ → Option (List ℕ)) → ℕ → List (List ℕ) → (List ℕ → Type 0) → Type 0 → Cause → Type 0
 NotYetCompletes holds limit paths Rises output_rose cause =
-    (source : List ℕ) (k : ℕ) → AreTold holds paths (source ∷ []) → (length source ≤ limit) → IsNotYet source k → NoneRose Rises paths → ¬ output_rose → IsNotYetOrNoMemory cause
+    (sources : List (List ℕ)) (trees : List Block) (s k : ℕ) → AreTold holds paths sources → AllWithin limit sources → AreAccepted sources trees → StopsRun sources s k
+    → NoneRose Rises paths → ¬ output_rose → IsNotYetOrNoMemory cause
 
 -- Where the paths hold sources within the limit that are accepted, and no count of faults rose, the cause says so, or there was no memory.
 abbrev pub CheckCompletes : (List ℕ → Option (List ℕ)) → ℕ → List (List ℕ) → (List ℕ → Type 0) → Type 0 → Cause → Type 0

@@ -3,31 +3,21 @@
 ghost use Rattle.std.specs.Prelude.{◌≡◌, ◌⊎◌, ◌<◌, ◌≤◌, [], IfErr, IsSomeAnd, List, OnOk, length, slice_get, ℕ};
 ghost use Rattle.std.specs.Io.KnownBytes.{Appends};
 ghost use Rattle.obq_io.specs.Causes.{Rose};
+ghost use Rattle.obq_io.specs.Known.{GetsPrefix, WhereTold};
 ghost use Rattle.obq_model.specs.Output.{check_text};
-ghost use Rattle.obq_run.specs.Ends.{IfReadFault, IfRefused, IfTooLong, IsCheckEnd, IsCheckFinish, IsCheckRefusal, IsRefusal, OnChecked, OnWriteFault, line_of, refusal_cause, status_of};
-ghost use Rattle.obq_run.specs.Known.{GetsPrefix, WhereTold};
+ghost use Rattle.obq_run.specs.Ends.{IfReadFault, IfRefused, IfTooLong, IsCheckEnd, IsCheckFinish, IsCheckRefusal, IsRefusal, OnChecked, OnWriteFault, line_of, status_of};
 ghost use Rattle.obq_run.specs.Runs.{CheckCompletes, IsCheckOf, IsRefusalOf};
-ghost use Rattle.obq_run.specs.Words.{AreInForm, names_of, paths_of};
+ghost use Rattle.obq_words.specs.Words.{AreInForm, names_of, paths_of};
 
+use crate::accepted::accepted_sources;
 use crate::ends::{Cause, End, status_for};
 use crate::journals::Journal;
-use crate::reading::{SOURCE_LIMIT, read_sources};
-use crate::run::{cause_of_stop, refuse};
-use crate::sources::{Refusal, examine};
+use crate::run::refuse;
 use crate::texts::{write_cause, write_checked};
-use crate::words::SiteWord;
+use obq_front::SOURCE_LIMIT;
 use obq_io::{Files, Sink};
+use obq_words::SiteWord;
 use std::alloc::Global;
-
-/// The cause where sources aren't accepted.
-fn cause_of_refusal(refusal: Refusal) -> Cause
-    ensures { result ≡ refusal_cause refusal }
-{
-    match refusal {
-        Refusal::Fault { source, fault } => Cause::Refused { source, fault },
-        Refusal::NoMemory => Cause::NoMemory,
-    }
-}
 
 /// Reads and examines the sources of the sites, without writing anything.
 fn check_files<F: Files>(alloc: Global, files: &mut F, sites: &[SiteWord]) -> Result<(), Cause>
@@ -39,13 +29,9 @@ fn check_files<F: Files>(alloc: Global, files: &mut F, sites: &[SiteWord]) -> Re
     ensures too_long { IfErr result (λ cause. IfTooLong cause (λ s. IsSomeAnd (slice_get (paths_of sites.now) s) (λ p. WhereTold (F.holds files.old p) (λ xs. SOURCE_LIMIT < length xs)))) }
     ensures refused { IfErr result (λ cause. IfRefused cause (IsRefusalOf (F.holds files.old) SOURCE_LIMIT (paths_of sites.now))) }
 {
-    let sources = match read_sources(alloc, files, sites) {
-        Ok(sources) => sources,
-        Err(stopped) => return Err(cause_of_stop(stopped)),
-    };
-    match examine(alloc, &sources) {
-        Ok(()) => Ok(()),
-        Err(refusal) => Err(cause_of_refusal(refusal)),
+    match accepted_sources(alloc, files, sites) {
+        Ok(_sources) => Ok(()),
+        Err(cause) => Err(cause),
     }
 }
 
@@ -93,7 +79,7 @@ pub fn check_sources<F: Files, O: Sink, E: Sink>(
     ensures refused { IfRefused result.cause (IsRefusalOf (F.holds files.old) SOURCE_LIMIT (paths_of sites.now)) }
     ensures write_fault { OnWriteFault result.cause (Rose (O.faults out.old) (O.faults out.new)) }
 
-    // The sources derive trees, and that is what is written.
+    // The sources derive trees without an unbound name, and that is what is written.
     ensures checked { OnChecked result.cause (IsCheckOf (F.holds files.old) SOURCE_LIMIT (paths_of sites.now)
         × Appends (O.written out.old) (O.written out.new) (check_text (names_of sites.now))) }
     ensures part { OnWriteFault result.cause (IsCheckOf (F.holds files.old) SOURCE_LIMIT (paths_of sites.now)

@@ -15,11 +15,13 @@ pub enum Cause {
     Checked,
     /// The first word that can't stand in its place; a missing word is the number of words.
     Usage { word: u32 },
+    /// The word that gives a 17th site.
+    TooManySites { word: u32 },
     SourceTooLong { source: u16 },
     /// The first fault of the first source that has one.
     Refused { source: u16, fault: SourceFault },
-    /// The source is accepted, and of a kind that doesn't run yet; `token` is the first that differs
-    /// from those of a source that runs.
+    /// The sources are accepted, and of a kind that doesn't run yet. Of one source, `token` is the
+    /// first that differs from those of a source that runs; of several, the first of the second.
     NotYet { source: u16, token: u32 },
     ReadFault { file: u16 },
     WriteFault,
@@ -43,6 +45,7 @@ pub fn status_for(cause: &Cause) -> u8
         Cause::Ran => 0,
         Cause::Checked => 0,
         Cause::Usage { word: _ } => 2,
+        Cause::TooManySites { word: _ } => 7,
         Cause::SourceTooLong { source: _ } => 7,
         Cause::Refused {
             source: _,

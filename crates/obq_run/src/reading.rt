@@ -1,63 +1,17 @@
-//! Reading files to a limit.
+//! Reading the sources of the sites.
 
-ghost use Rattle.std.specs.Prelude.{◌≡◌, ◌<◌, ◌≤◌, ◌^◌, ℕ, List, IfErr, IfOk, IsSomeAnd, MatchResult, length, slice_get};
+ghost use Rattle.std.specs.Prelude.{◌≡◌, ◌<◌, ◌≤◌, ℕ, List, IfErr, IfOk, IsSomeAnd, MatchResult, length, slice_get, string_bytes};
+ghost use Rattle.obq_front.specs.Contents as front;
 ghost use Rattle.obq_io.specs.Causes.{Rose};
-ghost use Rattle.obq_run.specs.Known.{AreHeld, IsIt, WhereTold};
-ghost use Rattle.obq_run.specs.Ends.{MatchUnread};
-ghost use Rattle.obq_run.specs.Contents.{contents};
-ghost use Rattle.obq_run.specs.Words.{paths_of};
+ghost use Rattle.obq_io.specs.Known.{IsIt, WhereTold};
+ghost use Rattle.obq_io.specs.Reads.{MatchUnread};
+ghost use Rattle.obq_run.specs.Held.{AreHeld};
+ghost use Rattle.obq_words.specs.Words.{names_of, paths_of};
 
-use crate::words::SiteWord;
-use obq_io::Files;
+use obq_front::{SOURCE_LIMIT, Source};
+use obq_io::{Files, Unread, read_file};
+use obq_words::SiteWord;
 use std::alloc::Global;
-
-/// How many bytes a source may have.
-pub const SOURCE_LIMIT: usize = 1_048_576;
-
-/// How many bytes are read at a time.
-const PIECE: usize = 4096;
-
-/// Why a file was not read.
-#[derive(Clone, Copy, Debug, PartialEq, Eq)]
-pub enum Unread {
-    Fault,
-    TooLong,
-    NoMemory,
-}
-
-/// Reads a file to its end, or up to the first byte past the limit.
-pub fn read_file<F: Files>(
-    alloc: Global,
-    files: &mut F,
-    path: &str,
-    limit: usize,
-) -> Result<Vec<u8>, Unread>
-    requires { limit < 2 ^ 32 }
-    ensures same { (n : List ℕ) → F.holds files.new n ≡ F.holds files.old n }
-    ensures later { (n : List ℕ) → F.faults files.old n ≤ F.faults files.new n }
-    ensures whole { IfOk result (λ v. IsIt (F.holds files.old path.now) v.items) }
-    ensures bound { IfOk result (λ v. length v.items ≤ limit) }
-    ensures unread { MatchResult result (λ v. IsIt (F.holds files.old path.now) v.items) (λ why. MatchUnread why (Rose (F.faults files.old path.now) (F.faults files.new path.now)) (WhereTold (F.holds files.old path.now) (λ xs. limit < length xs))) }
-{
-    if files.begin(path).is_err() {
-        return Err(Unread::Fault);
-    }
-    let mut bytes = Vec::new(alloc);
-    let mut buffer = [0u8; PIECE];
-    'pieces: while bytes.len() <= limit {
-        let room = (limit + 1 - bytes.len()).min(PIECE);
-        let Ok(count) = files.read(path, &mut buffer[..room]) else {
-            return Err(Unread::Fault);
-        };
-        if count == 0 {
-            return Ok(bytes);
-        }
-        if bytes.extend_from_slice(&buffer[..count]).is_err() {
-            return Err(Unread::NoMemory);
-        }
-    }
-    Err(Unread::TooLong)
-}
 
 /// Which file was not read, from 0, and why.
 #[derive(Clone, Copy, Debug, PartialEq, Eq)]
@@ -66,20 +20,41 @@ pub struct Stopped {
     pub why: Unread,
 }
 
+/// Reads the source of a site.
+fn read_source<F: Files>(
+    alloc: Global,
+    files: &mut F,
+    site: &SiteWord,
+) -> Result<Source, Unread>
+    ensures same { (n : List ℕ) → F.holds files.new n ≡ F.holds files.old n }
+    ensures later { (n : List ℕ) → F.faults files.old n ≤ F.faults files.new n }
+    ensures named { IfOk result (λ s. s.name ≡ site.now.name) }
+    ensures bound { IfOk result (λ s. length s.bytes.items ≤ SOURCE_LIMIT) }
+    ensures unread { MatchResult result (λ s. IsIt (F.holds files.old (string_bytes site.now.path)) s.bytes.items)
+        (λ why. MatchUnread why (Rose (F.faults files.old (string_bytes site.now.path)) (F.faults files.new (string_bytes site.now.path))) (WhereTold (F.holds files.old (string_bytes site.now.path)) (λ xs. SOURCE_LIMIT < length xs))) }
+{
+    let bytes = read_file(alloc, files, site.path.as_str(), SOURCE_LIMIT)?;
+    let Ok(name) = site.name.copy(alloc) else {
+        return Err(Unread::NoMemory);
+    };
+    Ok(Source { name, bytes })
+}
+
 /// Reads the sources of the sites in order.
 pub fn read_sources<F: Files>(
     alloc: Global,
     files: &mut F,
     sites: &[SiteWord],
-) -> Result<Vec<Vec<u8>>, Stopped>
+) -> Result<Vec<Source>, Stopped>
     requires { length sites.now ≤ 16 }
     ensures same { (n : List ℕ) → F.holds files.new n ≡ F.holds files.old n }
-    ensures held { IfOk result (λ sources. AreHeld (F.holds files.old) SOURCE_LIMIT (paths_of sites.now) (contents sources.items)) }
+    ensures held { IfOk result (λ sources. AreHeld (F.holds files.old) SOURCE_LIMIT (paths_of sites.now) (front.contents sources.items)) }
+    ensures named { IfOk result (λ sources. front.names_of sources.items ≡ names_of sites.now) }
     ensures unread { IfErr result (λ s. IsSomeAnd (slice_get (paths_of sites.now) s.file) (λ p. MatchUnread s.why (Rose (F.faults files.old p) (F.faults files.new p)) (WhereTold (F.holds files.old p) (λ xs. SOURCE_LIMIT < length xs)))) }
 {
     let mut sources = Vec::new(alloc);
     for (i, site) in sites.iter().enumerate() {
-        match read_file(alloc, files, site.path.as_str(), SOURCE_LIMIT) {
+        match read_source(alloc, files, site) {
             Ok(source) => {
                 if sources.push(source).is_err() {
                     return Err(Stopped {

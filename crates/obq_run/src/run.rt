@@ -1,26 +1,29 @@
-//! The run of one source that only writes texts.
+//! The run of sources: so far of one source that only writes texts.
 
 ghost use Rattle.std.specs.Prelude.{◌≡◌, ◌⊎◌, ◌<◌, ◌≤◌, ◌∷◌, [], IfErr, IfOk, IsSomeAnd, List, length, slice_get, ℕ};
 ghost use Rattle.std.specs.List.{zip};
 ghost use Rattle.std.specs.Io.KnownBytes.{Appends};
+ghost use Rattle.obq_base.specs.declared.tokens.Token.{Token};
+ghost use Rattle.obq_base.specs.declared.trees.Block.{Block};
 ghost use Rattle.obq_io.specs.Causes.{Rose};
+ghost use Rattle.obq_io.specs.Known.{GetsPrefix, WhereTold};
 ghost use Rattle.obq_model.specs.Output.{run_text};
-ghost use Rattle.obq_model.specs.Sources.{IsFault};
-ghost use Rattle.obq_run.specs.Ends.{IfNotYet, IfReadFault, IfRefused, IfTooLong, IfUnrun, IsRefusal, IsRunEnd, IsRunFinish, IsRunRefusal, OnRan, OnWriteFault, line_of, status_of, stop_cause, unrun_cause};
-ghost use Rattle.obq_run.specs.Known.{AreHeld, GetsPrefix, WhereTold};
-ghost use Rattle.obq_run.specs.Runs.{IsEndOf, IsNotYet, IsNotYetOf, IsRefusalOf, IsRunOf, NotYetCompletes, OnlyWrite, RunCompletes, RunsOf, one_ended};
-ghost use Rattle.obq_run.specs.Words.{names_of, paths_of};
+ghost use Rattle.obq_model.specs.Sources.{AreAccepted};
+ghost use Rattle.obq_run.specs.Ends.{IfNotYet, IfReadFault, IfRefused, IfTooLong, IfUnrun, IsRefusal, IsRunEnd, IsRunFinish, IsRunRefusal, OnRan, OnWriteFault, line_of, status_of, unrun_cause};
+ghost use Rattle.obq_run.specs.Runs.{IsEndOf, IsNotYetOf, IsRefusalOf, IsRunOf, NotYetCompletes, OnlyWrites, RunCompletes, RunsOf, StopsRun, one_ended};
+ghost use Rattle.obq_words.specs.Words.{AreInForm, names_of, paths_of};
 
+use crate::accepted::accepted_sources;
 use crate::ends::{Cause, End, status_for};
 use crate::history::{Ran, run_texts};
 use crate::journals::Journal;
 use crate::put_texts::{Unreadable, read_texts};
-use crate::reading::{SOURCE_LIMIT, Stopped, Unread, read_sources};
-use crate::sources::{Unaccepted, accepted_tokens};
 use crate::texts::{write_cause, write_run};
-use crate::words::SiteWord;
-use obq_base::{Report, SourceFault};
+use obq_base::Report;
+use obq_front::SOURCE_LIMIT;
 use obq_io::{Files, Sink};
+use obq_lex::{LexRefused, lex};
+use obq_words::SiteWord;
 use std::alloc::Global;
 
 /// How many turns a thread has.
@@ -28,23 +31,23 @@ pub const TURNS: u32 = 100_000;
 
 /// Why a source was not run.
 pub enum Unrun {
-    Fault(SourceFault),
     /// The first token that differs from those of a source that runs.
     NotYet { token: u32 },
     NoMemory,
 }
 
-/// Runs a source, without writing anything.
+/// Runs an accepted source, without writing anything.
 fn run_source(alloc: Global, source: &[u8]) -> Result<Ran, Unrun>
-    requires { length source.now ≤ SOURCE_LIMIT }
+    requires within { length source.now ≤ SOURCE_LIMIT }
+    requires accepted { (trees : List Block) × AreAccepted (source.now ∷ []) trees }
     ensures ran { IfOk result (λ r. IsEndOf (source.now ∷ []) TURNS r.journal (r.bytes.items ∷ []) one_ended) }
-    ensures form { IfOk result (λ r. OnlyWrite (source.now ∷ [])) }
-    ensures unrun { IfErr result (λ why. IfUnrun why (IsFault source.now) (IsNotYet source.now)) }
+    ensures form { IfOk result (λ r. OnlyWrites source.now) }
+    ensures unrun { IfErr result (λ why. IfUnrun why (StopsRun (source.now ∷ []) 0)) }
 {
-    let tokens = match accepted_tokens(alloc, source) {
+    let tokens = match lex(alloc, source) {
         Ok(tokens) => tokens,
-        Err(Unaccepted::Fault(fault)) => return Err(Unrun::Fault(fault)),
-        Err(Unaccepted::NoMemory) => return Err(Unrun::NoMemory),
+        Err(LexRefused::Fault { kind: _, place: _ }) => unreachable!(),
+        Err(LexRefused::NoMemory) => return Err(Unrun::NoMemory),
     };
     let texts = match read_texts(alloc, &tokens) {
         Ok(texts) => texts,
@@ -57,46 +60,38 @@ fn run_source(alloc: Global, source: &[u8]) -> Result<Ran, Unrun>
     }
 }
 
-/// The cause where the first source was not run.
+/// The cause where the one source was not run.
 fn cause_of_unrun(unrun: Unrun) -> Cause
     ensures { result ≡ unrun_cause unrun }
 {
     match unrun {
-        Unrun::Fault(fault) => Cause::Refused { source: 0, fault },
         Unrun::NotYet { token } => Cause::NotYet { source: 0, token },
         Unrun::NoMemory => Cause::NoMemory,
     }
 }
 
-/// The cause where a file wasn't read.
-pub fn cause_of_stop(stopped: Stopped) -> Cause
-    ensures { result ≡ stop_cause stopped }
-{
-    match stopped.why {
-        Unread::Fault => Cause::ReadFault { file: stopped.file },
-        Unread::TooLong => Cause::SourceTooLong {
-            source: stopped.file,
-        },
-        Unread::NoMemory => Cause::NoMemory,
-    }
-}
-
-/// Reads and runs the source of the one site, without writing anything.
+/// Reads, examines and runs the sources of the sites, without writing anything.
 fn run_files<F: Files>(alloc: Global, files: &mut F, sites: &[SiteWord]) -> Result<Ran, Cause>
-    requires { length sites.now ≡ 1 }
+    requires { AreInForm sites.now }
     ensures same { (n : List ℕ) → F.holds files.new n ≡ F.holds files.old n }
     ensures ran { IfOk result (RunsOf (F.holds files.old) SOURCE_LIMIT (paths_of sites.now) TURNS) }
     ensures only { IfErr result IsRunRefusal }
     ensures read_fault { IfErr result (λ cause. IfReadFault cause (λ file. IsSomeAnd (slice_get (paths_of sites.now) file) (λ p. Rose (F.faults files.old p) (F.faults files.new p)))) }
     ensures too_long { IfErr result (λ cause. IfTooLong cause (λ s. IsSomeAnd (slice_get (paths_of sites.now) s) (λ p. WhereTold (F.holds files.old p) (λ xs. SOURCE_LIMIT < length xs)))) }
     ensures refused { IfErr result (λ cause. IfRefused cause (IsRefusalOf (F.holds files.old) SOURCE_LIMIT (paths_of sites.now))) }
-    ensures not_yet { IfErr result (λ cause. IfNotYet cause (λ s k. (s ≡ 0) × IsNotYetOf (F.holds files.old) SOURCE_LIMIT (paths_of sites.now) k)) }
+    ensures not_yet { IfErr result (λ cause. IfNotYet cause (IsNotYetOf (F.holds files.old) SOURCE_LIMIT (paths_of sites.now))) }
 {
-    let sources = match read_sources(alloc, files, sites) {
+    let sources = match accepted_sources(alloc, files, sites) {
         Ok(sources) => sources,
-        Err(stopped) => return Err(cause_of_stop(stopped)),
+        Err(cause) => return Err(cause),
     };
-    match run_source(alloc, &sources[0]) {
+    if sources.len() > 1 {
+        return Err(Cause::NotYet {
+            source: 1,
+            token: 0,
+        });
+    }
+    match run_source(alloc, &sources[0].bytes) {
         Ok(ran) => Ok(ran),
         Err(unrun) => Err(cause_of_unrun(unrun)),
     }
@@ -153,8 +148,8 @@ fn finish<O: Sink, E: Sink>(out: &mut O, err: &mut E, sites: &[SiteWord], ran: R
     }
 }
 
-/// Runs the source of the one site, and writes what it wrote to `out`, or tells on `err` why it
-/// didn't.
+/// Runs the sources of the sites, and writes what they wrote to `out`, or tells on `err` why they
+/// don't run.
 pub fn run_sites<F: Files, O: Sink, E: Sink>(
     alloc: Global,
     sites: &[SiteWord],
@@ -162,17 +157,17 @@ pub fn run_sites<F: Files, O: Sink, E: Sink>(
     out: &mut O,
     err: &mut E,
 ) -> End
-    requires { length sites.now ≡ 1 }
+    requires { AreInForm sites.now }
 
     // Each cause comes only where it may.
     ensures only { IsRunEnd result.cause }
     ensures read_fault { IfReadFault result.cause (λ file. IsSomeAnd (slice_get (paths_of sites.now) file) (λ p. Rose (F.faults files.old p) (F.faults files.new p))) }
     ensures too_long { IfTooLong result.cause (λ s. IsSomeAnd (slice_get (paths_of sites.now) s) (λ p. WhereTold (F.holds files.old p) (λ xs. SOURCE_LIMIT < length xs))) }
     ensures refused { IfRefused result.cause (IsRefusalOf (F.holds files.old) SOURCE_LIMIT (paths_of sites.now)) }
-    ensures not_yet { IfNotYet result.cause (λ s k. (s ≡ 0) × IsNotYetOf (F.holds files.old) SOURCE_LIMIT (paths_of sites.now) k) }
+    ensures not_yet { IfNotYet result.cause (IsNotYetOf (F.holds files.old) SOURCE_LIMIT (paths_of sites.now)) }
     ensures write_fault { OnWriteFault result.cause (Rose (O.faults out.old) (O.faults out.new)) }
 
-    // The journal is a history of the source, and what is written is its output.
+    // The journal is a history of the sources, and what is written is its output.
     ensures ran { OnRan result.cause ((text : List ℕ) × IsRunOf (F.holds files.old) SOURCE_LIMIT (names_of sites.now) (paths_of sites.now) TURNS result.journal text result.status
         × Appends (O.written out.old) (O.written out.new) text) }
     ensures part { OnWriteFault result.cause ((text : List ℕ) × IsRunOf (F.holds files.old) SOURCE_LIMIT (names_of sites.now) (paths_of sites.now) TURNS result.journal text 0

@@ -1,7 +1,5 @@
 mod calls;
 mod several;
-mod shapes;
-mod tables;
 
 use crate::tests::calls::{file_list, outcome_of, word_list};
 use crate::{Cause, obliq};
@@ -28,7 +26,7 @@ struct Row {
     err: &'static str,
 }
 
-const RUNS: [Row; 22] = [
+const RUNS: [Row; 23] = [
     Row {
         source: "wr_putText(stdout, \"hi\");",
         status: 0,
@@ -66,10 +64,16 @@ const RUNS: [Row; 22] = [
         err: "",
     },
     Row {
-        source: "x",
+        source: "ok",
         status: 9,
         out: "",
         err: "A: not yet at token 0\n",
+    },
+    Row {
+        source: "wr_putText(stdout, y); let y = \"b\";",
+        status: 3,
+        out: "",
+        err: "A: unbound y at byte 19\n",
     },
     Row {
         source: "wr_putText(stdout, \"a\"); wr_putText(stdout, 1);",
@@ -163,7 +167,7 @@ const RUNS: [Row; 22] = [
     },
 ];
 
-const CHECKS: [Row; 8] = [
+const CHECKS: [Row; 12] = [
     Row {
         source: "",
         status: 0,
@@ -211,6 +215,30 @@ const CHECKS: [Row; 8] = [
         status: 3,
         out: "",
         err: "A: syntax at token 6\n",
+    },
+    Row {
+        source: "x := 1;",
+        status: 3,
+        out: "",
+        err: "A: unbound x at byte 0\n",
+    },
+    Row {
+        source: "wr_putText(stdout, y); let y = \"b\";",
+        status: 3,
+        out: "",
+        err: "A: unbound y at byte 19\n",
+    },
+    Row {
+        source: "let f = proc() g() end; let g = f;",
+        status: 3,
+        out: "",
+        err: "A: unbound g at byte 15\n",
+    },
+    Row {
+        source: "x 1",
+        status: 3,
+        out: "",
+        err: "A: syntax at token 1\n",
     },
 ];
 
@@ -268,7 +296,7 @@ const LINES: [Line; 15] = [
         err: "usage: word 1\n",
     },
     Line {
-        line: "run A=a B=a",
+        line: "run A=a A=b",
         word: 2,
         err: "usage: word 2\n",
     },
@@ -293,9 +321,9 @@ const LINES: [Line; 15] = [
         err: "usage: word 1\n",
     },
     Line {
-        line: "check A=a B=a",
-        word: 2,
-        err: "usage: word 2\n",
+        line: "check A=a B=a --links",
+        word: 3,
+        err: "usage: word 3\n",
     },
 ];
 
@@ -303,7 +331,7 @@ const LINES: [Line; 15] = [
 fn a_table_of_runs(rt: HostRuntime) -> Result<(), Fail> {
     for row in &RUNS {
         let source = row.source;
-        let found = outcome_of(&rt, rt.alloc(), RUN, source.as_bytes(), &[], 4096)?;
+        let found = outcome_of(&rt, rt.alloc(), RUN, &[source.as_bytes()], &[], 4096)?;
         assert_eq!(rt; found.err.as_slice(), row.err.as_bytes(), "{source}");
         assert_eq!(rt; found.out.as_slice(), row.out.as_bytes(), "{source}");
         assert_eq!(rt; found.status, row.status, "{source}");
@@ -315,7 +343,7 @@ fn a_table_of_runs(rt: HostRuntime) -> Result<(), Fail> {
 fn a_table_of_checks(rt: HostRuntime) -> Result<(), Fail> {
     for row in &CHECKS {
         let source = row.source;
-        let found = outcome_of(&rt, rt.alloc(), CHECK, source.as_bytes(), &[], 4096)?;
+        let found = outcome_of(&rt, rt.alloc(), CHECK, &[source.as_bytes()], &[], 4096)?;
         assert_eq!(rt; found.err.as_slice(), row.err.as_bytes(), "{source}");
         assert_eq!(rt; found.out.as_slice(), row.out.as_bytes(), "{source}");
         assert_eq!(rt; found.status, row.status, "{source}");
@@ -327,7 +355,7 @@ fn a_table_of_checks(rt: HostRuntime) -> Result<(), Fail> {
 fn a_table_of_words(rt: HostRuntime) -> Result<(), Fail> {
     for row in &LINES {
         let line = row.line;
-        let found = outcome_of(&rt, rt.alloc(), line, HI.as_bytes(), &[], 4096)?;
+        let found = outcome_of(&rt, rt.alloc(), line, &[HI.as_bytes()], &[], 4096)?;
         assert_eq!(rt; found.cause, Cause::Usage { word: row.word }, "{line}");
         assert_eq!(rt; found.err.as_slice(), row.err.as_bytes(), "{line}");
         assert_eq!(rt; found.status, 2, "{line}");
@@ -340,7 +368,7 @@ fn a_table_of_words(rt: HostRuntime) -> Result<(), Fail> {
 fn files_that_fail(rt: HostRuntime) -> Result<(), Fail> {
     for line in [RUN, CHECK] {
         for k in [1, 2, 3] {
-            let found = outcome_of(&rt, rt.alloc(), line, HI.as_bytes(), &[k], 4096)?;
+            let found = outcome_of(&rt, rt.alloc(), line, &[HI.as_bytes()], &[k], 4096)?;
             assert_eq!(rt; found.cause, Cause::ReadFault { file: 0 }, "{line} {k}");
             assert_eq!(rt; found.err.as_slice(), "read fault at file 0\n".as_bytes());
             assert_eq!(rt; found.status, 4);
@@ -348,7 +376,7 @@ fn files_that_fail(rt: HostRuntime) -> Result<(), Fail> {
         }
     }
     for line in ["run A=b", "check A=b"] {
-        let found = outcome_of(&rt, rt.alloc(), line, HI.as_bytes(), &[], 4096)?;
+        let found = outcome_of(&rt, rt.alloc(), line, &[HI.as_bytes()], &[], 4096)?;
         assert_eq!(rt; found.cause, Cause::ReadFault { file: 0 }, "{line}");
         assert_eq!(rt; found.status, 4);
     }
@@ -357,12 +385,12 @@ fn files_that_fail(rt: HostRuntime) -> Result<(), Fail> {
 
 #[test]
 fn sinks_that_fail(rt: HostRuntime) -> Result<(), Fail> {
-    let found = outcome_of(&rt, rt.alloc(), RUN, HI.as_bytes(), &[], 5)?;
+    let found = outcome_of(&rt, rt.alloc(), RUN, &[HI.as_bytes()], &[], 5)?;
     assert_eq!(rt; found.cause, Cause::WriteFault);
     assert_eq!(rt; found.out.as_slice(), "== A ".as_bytes());
     assert_eq!(rt; found.err.as_slice(), "write fault\n".as_bytes());
     assert_eq!(rt; found.status, 5);
-    let found = outcome_of(&rt, rt.alloc(), CHECK, HI.as_bytes(), &[], 3)?;
+    let found = outcome_of(&rt, rt.alloc(), CHECK, &[HI.as_bytes()], &[], 3)?;
     assert_eq!(rt; found.cause, Cause::WriteFault);
     assert_eq!(rt; found.out.as_slice(), "A o".as_bytes());
     assert_eq!(rt; found.err.as_slice(), "write fault\n".as_bytes());
@@ -372,7 +400,7 @@ fn sinks_that_fail(rt: HostRuntime) -> Result<(), Fail> {
 
 #[test]
 fn a_byte_that_is_not_ascii(rt: HostRuntime) -> Result<(), Fail> {
-    let found = outcome_of(&rt, rt.alloc(), RUN, b"x \xc3", &[], 4096)?;
+    let found = outcome_of(&rt, rt.alloc(), RUN, &[b"x \xc3"], &[], 4096)?;
     assert_eq!(rt;
         found.err.as_slice(),
         "A: lexical NotAscii at byte 2\n".as_bytes()
@@ -387,7 +415,7 @@ fn a_byte_that_is_not_ascii(rt: HostRuntime) -> Result<(), Fail> {
 
 #[test]
 fn a_fault_of_the_tokens(rt: HostRuntime) -> Result<(), Fail> {
-    let found = outcome_of(&rt, rt.alloc(), CHECK, b"let a = ;", &[], 4096)?;
+    let found = outcome_of(&rt, rt.alloc(), CHECK, &[b"let a = ;"], &[], 4096)?;
     let fault = SourceFault::Syntax { token: 3 };
     assert_eq!(rt; found.cause, Cause::Refused { source: 0, fault });
     Ok(())
@@ -400,7 +428,7 @@ fn nested_parentheses(rt: HostRuntime) -> Result<(), Fail> {
         let mut source = vec![in alloc; b'('; depth]?;
         source.push(b'1')?;
         source.extend_from_slice(&vec![in alloc; b')'; depth]?)?;
-        let found = outcome_of(&rt, alloc, CHECK, &source, &[], 4096)?;
+        let found = outcome_of(&rt, alloc, CHECK, &[&source], &[], 4096)?;
         if depth == 200 {
             assert_eq!(rt; found.out.as_slice(), "A ok\n".as_bytes());
             assert_eq!(rt; found.cause, Cause::Checked);
@@ -426,7 +454,7 @@ fn entry(pure: u32, kind: ActKind) -> Option<Entry> {
 fn a_call_that_meets_no_fault(rt: HostRuntime) -> Result<(), Fail> {
     let alloc = rt.alloc();
     let words = word_list(alloc, RUN)?;
-    let mut files = SureFiles::new(file_list(alloc, HI.as_bytes())?);
+    let mut files = SureFiles::new(file_list(alloc, &[HI.as_bytes()])?);
     let mut out = MemSink::new(alloc, 4096)?;
     let mut err = MemSink::new(alloc, 4096)?;
     let end = obliq(
@@ -451,7 +479,7 @@ fn size_of_call<R: Threads + Wait + Sync>(
     source: &[u8],
 ) -> Result<(Cause, u64, u64), Fail> {
     let words = word_list(alloc, line)?;
-    let mut files = SureFiles::new(file_list(alloc, source)?);
+    let mut files = SureFiles::new(file_list(alloc, &[source])?);
     let mut out = SureSink::new();
     let mut err = SureSink::new();
     let end = obliq(

@@ -4,17 +4,16 @@
 ghost use Rattle.std.specs.Prelude.{◌≡◌, ◌∷◌, [], OnOk, slice_index_or};
 ghost use Rattle.std.specs.Io.KnownBytes.{Appends};
 ghost use Rattle.obq_io.specs.Causes.{HasCause};
-ghost use Rattle.obq_model.specs.Output.{check_text, kind_text, lexical_line, ok_line, refused_line, report_line, run_text, site_text, syntax_line};
+ghost use Rattle.obq_io.specs.Known.{GetsPrefix};
+ghost use Rattle.obq_model.specs.Output.{check_text, kind_text, lexical_line, ok_line, refused_line, report_line, run_text, site_text, syntax_line, unbound_line};
 ghost use Rattle.obq_run.specs.Ends.{line_of};
-ghost use Rattle.obq_run.specs.Known.{GetsPrefix};
-ghost use Rattle.obq_run.specs.Words.{names_of};
+ghost use Rattle.obq_words.specs.Words.{names_of};
 
 use crate::ends::Cause;
-use crate::words::SiteWord;
-use crate::writing::write_pieces;
 use itoa::Buffer;
 use obq_base::{LexKind, Report, SourceFault};
-use obq_io::{Failed, Sink};
+use obq_io::{Failed, Sink, write_pieces};
+use obq_words::SiteWord;
 
 /// Writes what a site of this name wrote.
 fn write_site<S: Sink>(out: &mut S, name: &[u8], bytes: &[u8]) -> Result<(), Failed>
@@ -143,17 +142,34 @@ fn write_syntax<S: Sink>(err: &mut S, name: &[u8], token: u32) -> Result<(), Fai
     write_pieces(err, &[name, b": syntax at token ", token, b"\n"])
 }
 
+/// Writes the line of an unbound name that begins at this byte.
+fn write_unbound<S: Sink>(err: &mut S, name: &[u8], word: &[u8], place: u32) -> Result<(), Failed>
+    ensures whole { OnOk result (Appends (S.written err.old) (S.written err.new) (unbound_line name.now word.now place)) }
+    ensures prefix { GetsPrefix (S.written err.old) (S.written err.new) (unbound_line name.now word.now place) }
+    ensures cause { HasCause (S.faults err.old) (S.faults err.new) result }
+{
+    let mut number = Buffer::new();
+    let place = number.format(place).as_bytes();
+    write_pieces(
+        err,
+        &[name, b": unbound ", word, b" at byte ", place, b"\n"],
+    )
+}
+
 /// Writes the line of a source that is refused.
-fn write_refused<S: Sink>(err: &mut S, name: &[u8], fault: SourceFault) -> Result<(), Failed>
-    ensures whole { OnOk result (Appends (S.written err.old) (S.written err.new) (refused_line name.now fault)) }
-    ensures prefix { GetsPrefix (S.written err.old) (S.written err.new) (refused_line name.now fault) }
+fn write_refused<S: Sink>(err: &mut S, name: &[u8], fault: &SourceFault) -> Result<(), Failed>
+    ensures whole { OnOk result (Appends (S.written err.old) (S.written err.new) (refused_line name.now fault.now)) }
+    ensures prefix { GetsPrefix (S.written err.old) (S.written err.new) (refused_line name.now fault.now) }
     ensures cause { HasCause (S.faults err.old) (S.faults err.new) result }
 {
     match fault {
         SourceFault::Lexical { kind, place } => {
-            write_lexical(err, name, kind_text(kind).as_bytes(), place)
+            write_lexical(err, name, kind_text(*kind).as_bytes(), *place)
         }
-        SourceFault::Syntax { token } => write_syntax(err, name, token),
+        SourceFault::Syntax { token } => write_syntax(err, name, *token),
+        SourceFault::Unbound { name: word, place } => {
+            write_unbound(err, name, word.as_bytes(), *place)
+        }
     }
 }
 
@@ -171,11 +187,15 @@ pub fn write_cause<S: Sink>(err: &mut S, sites: &[SiteWord], cause: &Cause) -> R
             let word = number.format(*word).as_bytes();
             write_pieces(err, &[b"usage: word ", word, b"\n"])
         }
+        Cause::TooManySites { word } => {
+            let word = number.format(*word).as_bytes();
+            write_pieces(err, &[b"too many sites: word ", word, b"\n"])
+        }
         Cause::SourceTooLong { source } => {
             let name = name_at(sites, *source);
             write_pieces(err, &[name, b": source too long", b"\n"])
         }
-        Cause::Refused { source, fault } => write_refused(err, name_at(sites, *source), *fault),
+        Cause::Refused { source, fault } => write_refused(err, name_at(sites, *source), fault),
         Cause::NotYet { source, token } => {
             let name = name_at(sites, *source);
             let token = number.format(*token).as_bytes();

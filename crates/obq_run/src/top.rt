@@ -3,25 +3,26 @@
 ghost use Rattle.std.specs.Prelude.{◌≡◌, ◌⊎◌, ◌<◌, [], None, Some, IsSomeAnd, List, false, length, slice_get, true, ℕ};
 ghost use Rattle.std.specs.Io.KnownBytes.{Appends};
 ghost use Rattle.obq_io.specs.Causes.{Rose};
-ghost use Rattle.obq_model.specs.CommandLine.{bad_word, is_checking};
+ghost use Rattle.obq_io.specs.Known.{GetsPrefix, WhereTold};
+ghost use Rattle.obq_model.specs.CommandLine.{TooManyAt, UsageAt, bad_word, is_checking};
 ghost use Rattle.obq_model.specs.Output.{check_text};
-ghost use Rattle.obq_run.specs.Ends.{IfNotYet, IfReadFault, IfRefused, IfTooLong, IsRefusal, MatchUsage, OnChecked, OnRan, OnWriteFault, line_of, status_of};
-ghost use Rattle.obq_run.specs.Known.{GetsPrefix, WhereTold};
+ghost use Rattle.obq_run.specs.Ends.{IfNotYet, IfReadFault, IfRefused, IfTooLong, IsRefusal, MatchWords, OnChecked, OnRan, OnWriteFault, line_of, status_of};
 ghost use Rattle.obq_run.specs.Runs.{CheckCompletes, IsCheckOf, IsNotYetOf, IsRefusalOf, IsRunOf, NotYetCompletes, RunCompletes};
-ghost use Rattle.obq_run.specs.Words.{bytes_of, given_names, given_paths};
+ghost use Rattle.obq_words.specs.Words.{bytes_of, given_names, given_paths};
 
 use crate::check::check_sources;
 use crate::ends::{Cause, End};
-use crate::reading::SOURCE_LIMIT;
 use crate::run::{TURNS, refuse, run_sites};
-use crate::words::{Order, WordsRefused, read_words};
+use obq_front::SOURCE_LIMIT;
 use obq_io::{Files, Gate, Sink};
+use obq_words::{Order, WordsRefused, read_words};
 use std::alloc::Global;
 use std::sync::Wait;
 use std::thread::Threads;
 
-/// Does what the words say: reads the source, runs or examines it, and writes what it wrote, or that
-/// it is accepted, to `out`, or tells on `err` why it didn't. `docs/LANGUAGE.md` has the words, the texts and the statuses.
+/// Does what the words say: reads the sources, runs or examines them, and writes what they wrote, or
+/// that they are accepted, to `out`, or tells on `err` why it didn't. `docs/LANGUAGE.md` has the
+/// words, the texts and the statuses.
 pub fn obliq<R: Threads + Wait + Sync, F: Files, O: Sink, E: Sink, G: Gate>(
     _rt: &R,
     alloc: Global,
@@ -32,11 +33,11 @@ pub fn obliq<R: Threads + Wait + Sync, F: Files, O: Sink, E: Sink, G: Gate>(
     _gate: &G,
 ) -> End
     // Words that can't stand are always refused; each other cause comes only where it may.
-    ensures usage { MatchUsage result.cause (λ k. bad_word (bytes_of words.now) ≡ Some k) (bad_word (bytes_of words.now) ≡ None) }
+    ensures usage { MatchWords result.cause (λ k. bad_word (bytes_of words.now) ≡ Some (UsageAt k)) (λ k. bad_word (bytes_of words.now) ≡ Some (TooManyAt k)) (bad_word (bytes_of words.now) ≡ None) }
     ensures read_fault { IfReadFault result.cause (λ file. IsSomeAnd (slice_get (given_paths (bytes_of words.now)) file) (λ p. Rose (F.faults files.old p) (F.faults files.new p))) }
     ensures too_long { IfTooLong result.cause (λ s. IsSomeAnd (slice_get (given_paths (bytes_of words.now)) s) (λ p. WhereTold (F.holds files.old p) (λ xs. SOURCE_LIMIT < length xs))) }
     ensures refused { IfRefused result.cause (IsRefusalOf (F.holds files.old) SOURCE_LIMIT (given_paths (bytes_of words.now))) }
-    ensures not_yet { IfNotYet result.cause (λ s k. (s ≡ 0) × IsNotYetOf (F.holds files.old) SOURCE_LIMIT (given_paths (bytes_of words.now)) k) }
+    ensures not_yet { IfNotYet result.cause (IsNotYetOf (F.holds files.old) SOURCE_LIMIT (given_paths (bytes_of words.now))) }
     ensures write_fault { OnWriteFault result.cause (Rose (O.faults out.old) (O.faults out.new)) }
 
     // The journal of a run is a history of its sources, and what is written is the output of that
@@ -78,6 +79,9 @@ pub fn obliq<R: Threads + Wait + Sync, F: Files, O: Sink, E: Sink, G: Gate>(
 {
     match read_words(alloc, words) {
         Err(WordsRefused::Usage { word }) => refuse(alloc, err, &[], Cause::Usage { word }),
+        Err(WordsRefused::TooManySites { word }) => {
+            refuse(alloc, err, &[], Cause::TooManySites { word })
+        }
         Err(WordsRefused::NoMemory) => refuse(alloc, err, &[], Cause::NoMemory),
         Ok(Order::Run { sites }) => run_sites(alloc, &sites, files, out, err),
         Ok(Order::Check { sites }) => check_sources(alloc, &sites, files, out, err),

@@ -7,6 +7,9 @@ use std::sync::Wait;
 use std::test::Fail;
 use std::thread::Threads;
 
+/// The names of the files, in order.
+const PATHS: [&str; 2] = ["a", "e"];
+
 /// The words of a command line, which stands with a space between each two.
 pub fn word_list(alloc: Global, line: &str) -> Result<Vec<String>, AllocError> {
     let mut list = Vec::new(alloc);
@@ -19,9 +22,13 @@ pub fn word_list(alloc: Global, line: &str) -> Result<Vec<String>, AllocError> {
     Ok(list)
 }
 
-/// One file, `a`, with these bytes.
-pub fn file_list(alloc: Global, bytes: &[u8]) -> Result<Vec<(String, Vec<u8>)>, AllocError> {
-    Ok(vec![in alloc; (String::from_str(alloc, "a")?, bytes.to_vec(alloc)?)]?)
+/// Files with these bytes, `a` and `e` in order.
+pub fn file_list(alloc: Global, sources: &[&[u8]]) -> Result<Vec<(String, Vec<u8>)>, AllocError> {
+    let mut list = Vec::new(alloc);
+    for (path, source) in PATHS.iter().zip(sources) {
+        list.push((String::from_str(alloc, path)?, source.to_vec(alloc)?))?;
+    }
+    Ok(list)
 }
 
 /// What a call gives.
@@ -33,18 +40,18 @@ pub struct Outcome {
     pub err: Vec<u8>,
 }
 
-/// A call with these words on one file, where the calls on files with these numbers fail, and `out`
-/// has so much room.
+/// A call with these words on these sources, where the calls on files with these numbers fail, and
+/// `out` has so much room.
 pub fn outcome_of<R: Threads + Wait + Sync>(
     rt: &R,
     alloc: Global,
     line: &str,
-    source: &[u8],
+    sources: &[&[u8]],
     fails: &[u64],
     room: u32,
 ) -> Result<Outcome, Fail> {
     let words = word_list(alloc, line)?;
-    let mut files = MemFiles::new(file_list(alloc, source)?, fails.to_vec(alloc)?);
+    let mut files = MemFiles::new(file_list(alloc, sources)?, fails.to_vec(alloc)?);
     let mut out = MemSink::new(alloc, room)?;
     let mut err = MemSink::new(alloc, 4096)?;
     let end = obliq(

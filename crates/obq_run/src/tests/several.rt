@@ -1,75 +1,168 @@
-//! Checks of two sources.
+//! Calls on two sources, `a` at site A and `e` at site E.
 
-ghost use Rattle.std.specs.Prelude.{◌≡◌, ◌∷◌, [], IfOk};
-ghost use Rattle.obq_run.specs.Words.{names_of};
-
-use crate::{Cause, SiteWord, check_sources};
-use obq_base::{Name, SourceFault};
-use obq_io::{MemFiles, MemSink};
-use std::alloc::{AllocError, Global};
+use crate::Cause;
+use crate::tests::calls::outcome_of;
 use std::test::Fail;
 
-fn site(alloc: Global, name: &[u8], path: &str) -> Result<SiteWord, AllocError>
-    ensures { IfOk result (λ s. s.name ≡ name.now) }
-{
-    Ok(SiteWord {
-        name: Name::new(Vec::from_slice(alloc, name)?),
-        path: String::from_str(alloc, path)?,
-    })
+const CHECK: &str = "check A=a E=e";
+
+const RUN: &str = "run A=a E=e";
+
+/// An object that moves to the site of an engine.
+const TRAVELLER: &str = "let e = net_importEngine(\"e\", \"namer\"); let c = {serialized, n => 0, inc => meth(s) s.n := s.n + 1 end, move => meth(s, e) let d = e(proc(arg) clone(s) end); redirect s to d end end}; c.inc(); c.move(e); c.inc(); wr_putText(stdout, fmt_int(c.n));";
+
+const ENGINE: &str = "net_exportEngine(\"e\", \"namer\", 0);";
+
+/// Two sources, and the status and the texts of a check of them.
+struct Pair {
+    first: &'static str,
+    second: &'static str,
+    status: u8,
+    out: &'static str,
+    err: &'static str,
 }
 
-/// The sites A and E, with the sources `a` and `e`.
-fn two_sites(alloc: Global) -> Result<Vec<SiteWord>, AllocError>
-    ensures { IfOk result (λ sites. names_of sites.items ≡ (65 ∷ []) ∷ (69 ∷ []) ∷ []) }
-{
-    let mut sites = Vec::new(alloc);
-    sites.push(site(alloc, b"A", "a")?)?;
-    sites.push(site(alloc, b"E", "e")?)?;
-    Ok(sites)
-}
+const CHECKS: [Pair; 9] = [
+    Pair {
+        first: TRAVELLER,
+        second: ENGINE,
+        status: 0,
+        out: "A ok\nE ok\n",
+        err: "",
+    },
+    Pair {
+        first: "",
+        second: "let x = 1; x",
+        status: 0,
+        out: "A ok\nE ok\n",
+        err: "",
+    },
+    Pair {
+        first: "x;",
+        second: "\"",
+        status: 3,
+        out: "",
+        err: "A: unbound x at byte 0\n",
+    },
+    Pair {
+        first: "ok :=",
+        second: "\"",
+        status: 3,
+        out: "",
+        err: "A: syntax at token 1\n",
+    },
+    Pair {
+        first: "1.5",
+        second: "x",
+        status: 3,
+        out: "",
+        err: "A: lexical Real at byte 0\n",
+    },
+    Pair {
+        first: "ok",
+        second: "\"",
+        status: 3,
+        out: "",
+        err: "E: lexical OpenText at byte 0\n",
+    },
+    Pair {
+        first: "ok",
+        second: "1; ;",
+        status: 3,
+        out: "",
+        err: "E: syntax at token 2\n",
+    },
+    Pair {
+        first: "let x = 1; x",
+        second: "let y = 1; x",
+        status: 3,
+        out: "",
+        err: "E: unbound x at byte 11\n",
+    },
+    Pair {
+        first: "x",
+        second: "y",
+        status: 3,
+        out: "",
+        err: "A: unbound x at byte 0\n",
+    },
+];
 
-/// What a check of the two sources gives: its cause, and the bytes on `out` and `err`.
-#[tactic(auto, using(crate::proofs::InForm::two_in_form))]
-fn checked(
-    alloc: Global,
-    first: &[u8],
-    second: &[u8],
-    fails: &[u64],
-) -> Result<(Cause, Vec<u8>, Vec<u8>), Fail> {
-    let sites = two_sites(alloc)?;
-    let mut list = Vec::new(alloc);
-    list.push((String::from_str(alloc, "a")?, first.to_vec(alloc)?))?;
-    list.push((String::from_str(alloc, "e")?, second.to_vec(alloc)?))?;
-    let mut files = MemFiles::new(list, fails.to_vec(alloc)?);
-    let mut out = MemSink::new(alloc, 4096)?;
-    let mut err = MemSink::new(alloc, 4096)?;
-    let end = check_sources(alloc, &sites, &mut files, &mut out, &mut err);
-    Ok((
-        end.cause,
-        out.bytes().to_vec(alloc)?,
-        err.bytes().to_vec(alloc)?,
-    ))
+#[test]
+fn a_table_of_pairs(rt: HostRuntime) -> Result<(), Fail> {
+    for pair in &CHECKS {
+        let first = pair.first;
+        let second = pair.second;
+        let sources = [first.as_bytes(), second.as_bytes()];
+        let found = outcome_of(&rt, rt.alloc(), CHECK, &sources, &[], 4096)?;
+        assert_eq!(rt; found.err.as_slice(), pair.err.as_bytes(), "{first} {second}");
+        assert_eq!(rt; found.out.as_slice(), pair.out.as_bytes(), "{first} {second}");
+        assert_eq!(rt; found.status, pair.status, "{first} {second}");
+    }
+    Ok(())
 }
 
 #[test]
-fn two_sources(rt: HostRuntime) -> Result<(), Fail> {
+fn runs_of_several_sources(rt: HostRuntime) -> Result<(), Fail> {
     let alloc = rt.alloc();
-    let (cause, out, err) = checked(alloc, b"a", b"e;", &[])?;
-    assert_eq!(rt; cause, Cause::Checked);
-    assert_eq!(rt; out.as_slice(), "A ok\nE ok\n".as_bytes());
-    assert!(rt; err.is_empty());
+    let found = outcome_of(&rt, alloc, RUN, &[b"", b"ok"], &[], 4096)?;
+    assert_eq!(rt; found.cause, Cause::NotYet { source: 1, token: 0 });
+    assert_eq!(rt; found.err.as_slice(), "E: not yet at token 0\n".as_bytes());
+    assert_eq!(rt; found.status, 9);
+    assert!(rt; found.out.is_empty());
+    let found = outcome_of(&rt, alloc, RUN, &[b"ok", b"x"], &[], 4096)?;
+    assert_eq!(rt; found.err.as_slice(), "E: unbound x at byte 0\n".as_bytes());
+    assert_eq!(rt; found.status, 3);
+    Ok(())
+}
 
-    // The first source that has a fault, whichever kind the others have.
-    let (cause, out, err) = checked(alloc, b"a", b"1; ;", &[])?;
-    let fault = SourceFault::Syntax { token: 2 };
-    assert_eq!(rt; cause, Cause::Refused { source: 1, fault });
-    assert!(rt; out.is_empty());
-    assert_eq!(rt; err.as_slice(), "E: syntax at token 2\n".as_bytes());
-    let (_, _, err) = checked(alloc, b"x :=", b"\"", &[])?;
-    assert_eq!(rt; err.as_slice(), "A: syntax at token 2\n".as_bytes());
+#[test]
+fn each_call_on_files_fails(rt: HostRuntime) -> Result<(), Fail> {
+    let alloc = rt.alloc();
+    // Each file is begun, read, and read to its end; every file before one is examined.
+    for k in [1, 2, 3, 4, 5, 6, 7] {
+        let found = outcome_of(&rt, alloc, CHECK, &[b"ok", b"ok"], &[k], 4096)?;
+        if k == 7 {
+            assert_eq!(rt; found.cause, Cause::Checked);
+            assert_eq!(rt; found.out.as_slice(), "A ok\nE ok\n".as_bytes());
+        } else {
+            let file = if k <= 3 { 0 } else { 1 };
+            assert_eq!(rt; found.cause, Cause::ReadFault { file }, "{k}");
+            assert!(rt; found.out.is_empty());
+            assert_eq!(rt; found.status, 4);
+        }
+        let found = outcome_of(&rt, alloc, CHECK, &[b"x :=", b"ok"], &[k], 4096)?;
+        let refused = k == 7;
+        assert_eq!(rt; found.status, if refused { 3 } else { 4 }, "{k}");
+        assert!(rt; found.out.is_empty());
+    }
+    Ok(())
+}
 
-    // Every source is read before one is examined.
-    let (cause, _, _) = checked(alloc, b"x :=", b"e", &[4])?;
-    assert_eq!(rt; cause, Cause::ReadFault { file: 1 });
+#[test]
+fn lines_of_many_sites(rt: HostRuntime) -> Result<(), Fail> {
+    let alloc = rt.alloc();
+    let line = "check A=a B=a C=a D=a E=e F=a G=a H=a I=a J=a K=a L=a M=a N=a O=a P=a";
+    let found = outcome_of(&rt, alloc, line, &[b"", b""], &[], 4096)?;
+    assert_eq!(rt; found.cause, Cause::Checked);
+    assert_eq!(rt; found.out.len(), 80);
+    let line = "run A=a B=a C=a D=a E=e F=a G=a H=a I=a J=a K=a L=a M=a N=a O=a P=a Q=a";
+    let found = outcome_of(&rt, alloc, line, &[b"", b""], &[], 4096)?;
+    assert_eq!(rt; found.cause, Cause::TooManySites { word: 17 });
+    assert_eq!(rt; found.err.as_slice(), "too many sites: word 17\n".as_bytes());
+    assert_eq!(rt; found.status, 7);
+    assert!(rt; found.out.is_empty());
+    Ok(())
+}
+
+#[test]
+fn a_second_source_too_long(rt: HostRuntime) -> Result<(), Fail> {
+    let alloc = rt.alloc();
+    let spaces = vec![in alloc; b' '; 1_048_577]?;
+    let sources = ["x :=".as_bytes(), spaces.as_slice()];
+    let found = outcome_of(&rt, alloc, CHECK, &sources, &[], 4096)?;
+    assert_eq!(rt; found.cause, Cause::SourceTooLong { source: 1 });
+    assert_eq!(rt; found.err.as_slice(), "E: source too long\n".as_bytes());
+    assert_eq!(rt; found.status, 7);
     Ok(())
 }

@@ -1,7 +1,7 @@
 use Rattle.std.proofs.Common.{List, subst, sym, ℕ}
 use Rattle.obq_io.specs.Causes.{Rose}
 use Rattle.obq_run.specs.Runs.{CheckCompletes}
-use Rattle.obq_run.specs.Words.{paths_of}
+use Rattle.obq_words.specs.Words.{paths_of}
 use Rattle.obq_run.proofs.Complete.{check_refused}
 use Rattle.obq_run.proofs.check.check_sources.Goals as goal
 

@@ -1,8 +1,8 @@
 use Rattle.std.proofs.Common.{[], arith, drop, length, ◌≡◌, ◌≤◌}
 use Rattle.std.proofs.Math.ListN.{drop_of_length-le}
 use Rattle.std.proofs.lemmas.List.{append-nil}
-use Rattle.obq_run.specs.Known.{AreHeld}
-use Rattle.obq_run.specs.Words.{paths_of}
+use Rattle.obq_run.specs.Held.{AreHeld}
+use Rattle.obq_words.specs.Words.{paths_of}
 use Rattle.obq_run.proofs.reading.read_sources.Goals as goal
 
 pub returns-clause-held : goal.returns-clause-held

@@ -2,9 +2,9 @@ use Rattle.std.proofs.Common.{List, ap, ap₂, subst, sym, ℕ, ◌≡◌, ◌�
 use Rattle.std.specs.List.{zip}
 use Rattle.obq_model.specs.Output.{run_text}
 use Rattle.obq_run.specs.Ends.{OnWriteFault}
-use Rattle.obq_run.specs.Known.{GetsPrefix}
+use Rattle.obq_io.specs.Known.{GetsPrefix}
 use Rattle.obq_run.specs.Runs.{one_ended}
-use Rattle.obq_run.specs.Words.{names_of}
+use Rattle.obq_words.specs.Words.{names_of}
 use Rattle.obq_run.proofs.Held.{only_one}
 use Rattle.obq_run.proofs.run.finish.Goals as goal
 use Rattle.obq_run.proofs.run.finish.Goals.{in-Err, in-Ok}

@@ -1,54 +1,75 @@
-use Rattle.std.proofs.Common.{List, ap, arith, length, subst, sym, ℕ, ◌≡◌, ◌≤◌, ◌∙◌, ◌∷◌, []}
-use Rattle.obq_run.specs.Contents.{contents}
-use Rattle.obq_run.specs.Ends.{IfNotYet, IfRefused}
-use Rattle.obq_run.specs.Known.{AreHeld}
-use Rattle.obq_run.specs.Runs.{IsNotYetOf, IsRefusalOf}
-use Rattle.obq_run.specs.Words.{paths_of}
+use Rattle.std.proofs.Common.{List, ap, arith, length, subst, sym, ℕ, ◌<◌, ◌≡◌, ◌≤◌, ◌∙◌, ◌∷◌, []}
+use Rattle.obq_base.specs.declared.trees.Block.{Block}
+use Rattle.obq_front.specs.Contents.{contents}
+use Rattle.obq_model.specs.Sources.{AreAccepted}
+use Rattle.obq_run.specs.Ends.{IfNotYet}
+use Rattle.obq_run.specs.Held.{AreHeld}
+use Rattle.obq_run.specs.Runs.{IsNotYetOf}
+use Rattle.obq_words.specs.Words.{paths_of}
 use Rattle.obq_run.proofs.Held.{as_many, only_one}
-use Rattle.obq_run.proofs.Unruns.{one_within, unrun_not_yet, unrun_refused}
+use Rattle.obq_run.proofs.Unruns.{never_not_yet, one_within, refused_before, several_stop, unrun_not_yet}
 use Rattle.obq_run.proofs.run.run_files.Goals as goal
+
+pub returns-in-Err-clause-only : goal.returns-in-Err-clause-only
+returns-in-Err-clause-only g c = refused_before c.in-Err.cause c.in-Err.ensures.only
+
+pub returns-in-Err-clause-not_yet : goal.returns-in-Err-clause-not_yet
+returns-in-Err-clause-not_yet g c = never_not_yet c.in-Err.cause _ c.in-Err.ensures.only
 
 pub index-requires : goal.index-requires
 index-requires g c =
     let many : length c.in-Ok.sources.items ≡ length c.args.sites.now = as_many (g.F.Files.holds c.args.files.now) 1048576 c.args.sites.now c.in-Ok.sources.items c.in-Ok.ensures.held in
-    omega (arith, many, c.requires)
+    omega (arith, many, c.requires.some)
 
-pub run_source-requires : goal.run_source-requires
-run_source-requires g c =
+pub run_source-requires-clause-within : goal.run_source-requires-clause-within
+run_source-requires-clause-within g c =
     let holds = g.F.Files.holds c.args.files.now in
+    let paths = paths_of c.args.sites.now in
     let items = c.in-Ok.sources.items in
+    let bytes = c.index.result.now.bytes.items in
     let many : length items ≡ length c.args.sites.now = as_many holds 1048576 c.args.sites.now items c.in-Ok.ensures.held in
-    let one : contents items ≡ c.index.result.now.items ∷ [] = only_one (λ s. s.items) items c.index.result.now (many ∙ c.requires) c.index.ensures in
-    let held : AreHeld holds 1048576 (paths_of c.args.sites.now) (c.index.result.now.items ∷ []) = subst (AreHeld holds 1048576 (paths_of c.args.sites.now)) one c.in-Ok.ensures.held in
-    subst (λ (s : List ℕ). length s ≤ 1048576) (sym c.deref.ensures.value) (one_within holds (paths_of c.args.sites.now) c.index.result.now.items held)
+    let single : length items ≡ 1 = omega (arith, many, c.requires.some, c.if-len-gt1.false, c.len.ensures) in
+    let one : contents items ≡ bytes ∷ [] = only_one (λ s. s.bytes.items) items c.index.result.now single c.index.ensures in
+    let held : AreHeld holds 1048576 paths (bytes ∷ []) = subst (AreHeld holds 1048576 paths) one c.in-Ok.ensures.held in
+    subst (λ (s : List ℕ). length s ≤ 1048576) (sym c.deref.ensures.value) (one_within holds paths bytes held)
+
+pub run_source-requires-clause-accepted : goal.run_source-requires-clause-accepted
+run_source-requires-clause-accepted g c =
+    let holds = g.F.Files.holds c.args.files.now in
+    let paths = paths_of c.args.sites.now in
+    let items = c.in-Ok.sources.items in
+    let bytes = c.index.result.now.bytes.items in
+    let many : length items ≡ length c.args.sites.now = as_many holds 1048576 c.args.sites.now items c.in-Ok.ensures.held in
+    let single : length items ≡ 1 = omega (arith, many, c.requires.some, c.if-len-gt1.false, c.len.ensures) in
+    let one : contents items ≡ bytes ∷ [] = only_one (λ s. s.bytes.items) items c.index.result.now single c.index.ensures in
+    let is : contents items ≡ c.deref.result.now ∷ [] = one ∙ ap (λ s. s ∷ []) (sym c.deref.ensures.value) in
+    subst (λ ss. (trees : List Block) × AreAccepted ss trees) is c.in-Ok.ensures.accepted
 
 pub returns-in-Ok-run_source-clause-ran : goal.returns-in-Ok-run_source-clause-ran
 returns-in-Ok-run_source-clause-ran g c =
     let holds = g.F.Files.holds c.args.files.now in
-    let items = c.in-Ok.sources.items in
-    let many : length items ≡ length c.args.sites.now = as_many holds 1048576 c.args.sites.now items c.in-Ok.ensures.held in
-    let one : contents items ≡ c.index.result.now.items ∷ [] = only_one (λ s. s.items) items c.index.result.now (many ∙ c.requires) c.index.ensures in
-    let is : contents items ≡ c.deref.result.now ∷ [] = one ∙ ap (λ s. s ∷ []) (sym c.deref.ensures.value) in
-    record { sources = contents items; held = c.in-Ok.ensures.held; form = rw is c.in-Ok-run_source.ensures.form; end = rw is c.in-Ok-run_source.ensures.ran }
-
-pub returns-clause-refused : goal.returns-clause-refused
-returns-clause-refused g c =
-    let holds = g.F.Files.holds c.args.files.now in
     let paths = paths_of c.args.sites.now in
     let items = c.in-Ok.sources.items in
+    let bytes = c.index.result.now.bytes.items in
     let many : length items ≡ length c.args.sites.now = as_many holds 1048576 c.args.sites.now items c.in-Ok.ensures.held in
-    let one : contents items ≡ c.index.result.now.items ∷ [] = only_one (λ s. s.items) items c.index.result.now (many ∙ c.requires) c.index.ensures in
+    let single : length items ≡ 1 = omega (arith, many, c.requires.some, c.if-len-gt1.false, c.len.ensures) in
+    let one : contents items ≡ bytes ∷ [] = only_one (λ s. s.bytes.items) items c.index.result.now single c.index.ensures in
     let is : contents items ≡ c.deref.result.now ∷ [] = one ∙ ap (λ s. s ∷ []) (sym c.deref.ensures.value) in
-    subst (λ cause. IfRefused cause (IsRefusalOf holds 1048576 paths)) (sym c.cause_of_unrun.ensures)
-    (unrun_refused holds 1048576 paths c.deref.result.now c.in-Err-run_source.unrun (subst (AreHeld holds 1048576 paths) is c.in-Ok.ensures.held) c.in-Err-run_source.ensures.unrun)
+    let held : AreHeld holds 1048576 paths (c.deref.result.now ∷ []) = subst (AreHeld holds 1048576 paths) is c.in-Ok.ensures.held in
+    record { source = c.deref.result.now; held = held; form = c.in-Ok-run_source.ensures.form; end = c.in-Ok-run_source.ensures.ran }
 
 pub returns-clause-not_yet : goal.returns-clause-not_yet
 returns-clause-not_yet g c =
     let holds = g.F.Files.holds c.args.files.now in
     let paths = paths_of c.args.sites.now in
     let items = c.in-Ok.sources.items in
+    let bytes = c.index.result.now.bytes.items in
     let many : length items ≡ length c.args.sites.now = as_many holds 1048576 c.args.sites.now items c.in-Ok.ensures.held in
-    let one : contents items ≡ c.index.result.now.items ∷ [] = only_one (λ s. s.items) items c.index.result.now (many ∙ c.requires) c.index.ensures in
+    let single : length items ≡ 1 = omega (arith, many, c.requires.some, c.if-len-gt1.false, c.len.ensures) in
+    let one : contents items ≡ bytes ∷ [] = only_one (λ s. s.bytes.items) items c.index.result.now single c.index.ensures in
     let is : contents items ≡ c.deref.result.now ∷ [] = one ∙ ap (λ s. s ∷ []) (sym c.deref.ensures.value) in
-    subst (λ cause. IfNotYet cause (λ s k. (s ≡ 0) × IsNotYetOf holds 1048576 paths k)) (sym c.cause_of_unrun.ensures)
-    (unrun_not_yet holds 1048576 paths c.deref.result.now c.in-Err-run_source.unrun (subst (AreHeld holds 1048576 paths) is c.in-Ok.ensures.held) c.in-Err-run_source.ensures.unrun)
+    let held : AreHeld holds 1048576 paths (c.deref.result.now ∷ []) = subst (AreHeld holds 1048576 paths) is c.in-Ok.ensures.held in
+    let trees = c.in-Ok.ensures.accepted.0 in
+    let accepted : AreAccepted (c.deref.result.now ∷ []) trees = subst (λ ss. AreAccepted ss trees) is c.in-Ok.ensures.accepted.1 in
+    subst (λ cause. IfNotYet cause (IsNotYetOf holds 1048576 paths)) (sym c.cause_of_unrun.ensures)
+    (unrun_not_yet holds 1048576 paths c.deref.result.now trees c.in-Err-run_source.unrun held accepted c.in-Err-run_source.ensures.unrun)

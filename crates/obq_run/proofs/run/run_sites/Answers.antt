@@ -1,9 +1,19 @@
-use Rattle.std.proofs.Common.{List, subst, sym, ℕ}
+use Rattle.std.proofs.Common.{List, [], subst, sym, ℕ, ◌∙◌, ◌∷◌}
+use Rattle.std.proofs.lemmas.List.{length-map}
+use Rattle.std.specs.String.{string_bytes}
 use Rattle.obq_io.specs.Causes.{Rose}
 use Rattle.obq_run.specs.Runs.{NotYetCompletes, RunCompletes, RunsOf}
-use Rattle.obq_run.specs.Words.{paths_of}
+use Rattle.obq_words.specs.Words.{paths_of}
 use Rattle.obq_run.proofs.Complete.{not_yet_finished, not_yet_refused, run_refused}
+use Rattle.obq_run.proofs.Held.{held_length}
 use Rattle.obq_run.proofs.run.run_sites.Goals as goal
+
+pub finish-requires : goal.finish-requires
+finish-requires g c =
+    let holds = g.F.Files.holds c.args.files.now in
+    let sites = c.args.sites.now in
+    let runs : RunsOf holds 1048576 (paths_of sites) 100000 c.in-Ok.ran = c.in-Ok.ensures.ran in
+    sym (held_length holds 1048576 (paths_of sites) (runs.source ∷ []) runs.held ∙ length-map sites (λ s. string_bytes s.path))
 
 pub returns-in-Err-clause-completes : goal.returns-in-Err-clause-completes
 returns-in-Err-clause-completes g c =
@@ -35,4 +45,4 @@ returns-in-Ok-clause-completes_not_yet g c =
     let Rises : List ℕ → Type 0 = λ p. Rose (files.faults c.args.files.now p) (files.faults c.run_files.new.files p) in
     let output : Type 0 = Rose (g.O.Sink.faults c.args.out.now) (g.O.Sink.faults c.finish.new.out) in
     let runs : RunsOf holds 1048576 paths 100000 c.in-Ok.ran = c.in-Ok.ensures.ran in
-    not_yet_finished holds 1048576 paths runs.sources Rises output c.finish.result.cause runs.held runs.form
+    not_yet_finished holds 1048576 paths runs.source Rises output c.finish.result.cause runs.held runs.form

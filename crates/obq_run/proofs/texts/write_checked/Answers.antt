@@ -3,10 +3,10 @@ use Rattle.std.proofs.Math.Seq.{drop-cons}
 use Rattle.std.proofs.lemmas.Grind.{flat_map-append}
 use Rattle.std.proofs.lemmas.List.{map-append, take-append-drop}
 use Rattle.obq_model.specs.Output.{check_text, ok_line}
-use Rattle.obq_run.specs.declared.words.SiteWord.{SiteWord}
-use Rattle.obq_run.specs.Known.{GetsPrefix}
-use Rattle.obq_run.specs.Words.{names_of}
-use Rattle.obq_run.proofs.Told.{prefix_behind}
+use Rattle.obq_words.specs.declared.words.SiteWord.{SiteWord}
+use Rattle.obq_io.specs.Known.{GetsPrefix}
+use Rattle.obq_words.specs.Words.{names_of}
+use Rattle.obq_io.proofs.Told.{prefix_behind}
 use Rattle.obq_run.proofs.texts.write_checked.Goals as goal
 
 -- the lines before that of one site, that line, and those behind it

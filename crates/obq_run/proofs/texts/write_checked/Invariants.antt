@@ -1,7 +1,7 @@
 use Rattle.std.proofs.Common.{◌≤◌, take}
 use Rattle.std.specs.Io.KnownBytes.{Appends}
 use Rattle.obq_model.specs.Output.{check_text}
-use Rattle.obq_run.specs.Words.{names_of}
+use Rattle.obq_words.specs.Words.{names_of}
 use Rattle.obq_run.proofs.texts.write_checked.Given as goal
 
 abbrev pub invariant-loop-site : goal.invariant-loop-site

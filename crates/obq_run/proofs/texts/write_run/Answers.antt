@@ -2,8 +2,8 @@ use Rattle.std.proofs.Common.{List, [], ap, subst, sym, ◌++◌, ◌≡◌, ◌
 use Rattle.std.proofs.lemmas.List.{append-nil}
 use Rattle.obq_base.specs.declared.acts.Report.{Report}
 use Rattle.obq_model.specs.Output.{report_line, run_text, site_text}
-use Rattle.obq_run.specs.Known.{GetsPrefix}
-use Rattle.obq_run.proofs.Told.{prefix_behind, prefix_of_front}
+use Rattle.obq_io.specs.Known.{GetsPrefix}
+use Rattle.obq_io.proofs.Told.{prefix_behind, prefix_of_front}
 use Rattle.obq_run.proofs.texts.write_run.Goals as goal
 
 -- the output of one site: what it wrote, and the report

@@ -1,11 +1,17 @@
 use Rattle.std.proofs.Common.{List, Ok, subst, sym, ℕ}
 use Rattle.obq_io.specs.Causes.{Rose}
-use Rattle.obq_run.specs.declared.words.Order.TheVariants.{Check, Run}
-use Rattle.obq_run.specs.declared.words.SiteWord.{SiteWord}
+use Rattle.obq_words.specs.declared.words.Order.TheVariants.{Check, Run}
+use Rattle.obq_words.specs.declared.words.SiteWord.{SiteWord}
 use Rattle.obq_run.specs.Runs.{CheckCompletes, NotYetCompletes, RunCompletes}
-use Rattle.obq_run.specs.Words.{Answers, AreInForm, AreSites, bytes_of, paths_of}
-use Rattle.obq_run.proofs.InForm.{in_form}
+use Rattle.obq_words.specs.Words.{Answers, AreInForm, AreSites, bytes_of, paths_of}
+use Rattle.obq_words.proofs.InForm.{in_form}
 use Rattle.obq_run.proofs.top.obliq.Goals as goal
+
+pub run_sites-requires : goal.run_sites-requires
+run_sites-requires g c =
+    let words : List (List ℕ) = bytes_of c.args.words.now in
+    let given : Answers words (Ok (Run c.in-Ok-Run.sites)) = subst (λ order. Answers words (Ok order)) c.in-Ok-Run.field-0-is c.in-Ok-Run.ensures in
+    subst AreInForm (sym c.deref.ensures.value) (in_form words c.in-Ok-Run.sites.items given.0 given.2)
 
 pub check_sources-requires : goal.check_sources-requires
 check_sources-requires g c =
