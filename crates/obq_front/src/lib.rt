@@ -9,3 +9,6 @@ mod single;
 pub use examine::front;
 pub use program::{FrontRefused, Program, Source};
 pub use single::SOURCE_LIMIT;
+
+#[cfg(test)]
+mod tests;

@@ -34,6 +34,10 @@ pub enum Unaccepted {
 }
 
 impl From<NoMemory> for Unaccepted {
+    ghost use Rattle.obq_front.specs.declared.single.Unaccepted.TheVariants as unaccepted;
+
+    ghost from_gives = { λ _ e. e ≡ unaccepted.NoMemory };
+
     fn from(_error: NoMemory) -> Unaccepted {
         Unaccepted::NoMemory
     }

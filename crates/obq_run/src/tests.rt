@@ -1,7 +1,5 @@
 mod calls;
 mod several;
-mod shapes;
-mod tables;
 
 use crate::tests::calls::{file_list, outcome_of, word_list};
 use crate::{Cause, obliq};
