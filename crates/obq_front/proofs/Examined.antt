@@ -37,7 +37,7 @@ completes_behind i source left whole blocks parts tokens block part accepted res
     let behind : AreResolved (suc i) bs ps = subst (λ n. AreResolved n bs ps) next codes in
     let found : AreAccepted whole (blocks ++ block ∷ bs) × AreResolved 0 (blocks ++ block ∷ bs) (parts ++ part ∷ ps) = more (block ∷ bs) (part ∷ ps) ((tokens, accepted), rest) (resolved, behind) in
     let moved : AreAccepted whole (blocks ++ block ∷ [] ++ bs) × AreResolved 0 (blocks ++ block ∷ [] ++ bs) (parts ++ part ∷ ps) =
-        subst (λ x. AreAccepted whole x × AreResolved 0 x (parts ++ part ∷ ps)) (sym (append_assoc blocks (block ∷ []) bs)) found in
+    subst (λ x. AreAccepted whole x × AreResolved 0 x (parts ++ part ∷ ps)) (sym (append_assoc blocks (block ∷ []) bs)) found in
     subst (λ y. AreAccepted whole (blocks ++ block ∷ [] ++ bs) × AreResolved 0 (blocks ++ block ∷ [] ++ bs) y) (sym (append_assoc parts (part ∷ []) ps)) moved
 
 -- nothing is left
@@ -56,9 +56,9 @@ pub program_behind : (i : ℕ) (source : Source) (left : List Source) (whole : L
     → Completes i (contents (source ∷ left)) whole old.blocks.items old.parts.items → Completes (i + 1) (contents left) whole new.blocks.items new.parts.items
 program_behind i source left whole old new one more =
     let both : Completes (i + 1) (contents left) whole (old.blocks.items ++ one.block ∷ []) (old.parts.items ++ one.code ∷ []) =
-        completes_behind i source.bytes.items (contents left) whole old.blocks.items old.parts.items one.tokens one.block one.code one.accepted one.resolved more in
+    completes_behind i source.bytes.items (contents left) whole old.blocks.items old.parts.items one.tokens one.block one.code one.accepted one.resolved more in
     let moved : Completes (i + 1) (contents left) whole new.blocks.items (old.parts.items ++ one.code ∷ []) =
-        subst (λ x. Completes (i + 1) (contents left) whole x (old.parts.items ++ one.code ∷ [])) (sym one.blocks) both in
+    subst (λ x. Completes (i + 1) (contents left) whole x (old.parts.items ++ one.code ∷ [])) (sym one.blocks) both in
     subst (λ y. Completes (i + 1) (contents left) whole new.blocks.items y) (sym one.parts) moved
 
 pub refuses_behind : (i : ℕ) (source : Source) (left : List Source) (whole : List (List ℕ)) (old new : Gathered) → Adds old i source new → Refuses i (contents (source ∷ left)) whole
@@ -82,10 +82,10 @@ pub program_of : (i : ℕ) (sources : List Source) (made : Gathered) (program : 
 program_of i sources made program none names blocks codes named more =
     let last : made.names.items ++ [] ≡ names_of sources = subst (λ ss. made.names.items ++ names_of ss ≡ names_of sources) none named in
     let over : Completes i [] (contents sources) made.blocks.items made.parts.items =
-        subst (λ ss. Completes i (contents ss) (contents sources) made.blocks.items made.parts.items) none more in
+    subst (λ ss. Completes i (contents ss) (contents sources) made.blocks.items made.parts.items) none more in
     let both : AreAccepted (contents sources) made.blocks.items × AreResolved 0 made.blocks.items made.parts.items = completed i (contents sources) made.blocks.items made.parts.items over in
     let moved : AreAccepted (contents sources) program.blocks.items × AreResolved 0 program.blocks.items made.parts.items =
-        subst (λ x. AreAccepted (contents sources) x × AreResolved 0 x made.parts.items) (sym blocks) both in
+    subst (λ x. AreAccepted (contents sources) x × AreResolved 0 x made.parts.items) (sym blocks) both in
     record {
       names = names ∙ (sym (append-nil made.names.items) ∙ last);
       accepted = moved.0;

@@ -25,7 +25,7 @@ returns-in-Err-clause-refused c =
     let left : drop i sources ≡ source ∷ rest = one_left sources i source c.loop-i-test.true c.index-sources-i.is in
     let more : Refuses i (contents (source ∷ rest)) (contents sources) = subst (λ ss. Refuses i (contents ss) (contents sources)) left c.loop-i.invariant.refused in
     subst (λ r. IfRefused r (IsFirstRefused (contents sources))) (sym c.refused.ensures)
-        (refused_here i source.bytes.items (contents rest) (contents sources) c.in-Err.why c.in-Err.ensures.fault more)
+    (refused_here i source.bytes.items (contents rest) (contents sources) c.in-Err.why c.in-Err.ensures.fault more)
 
 pub loop-i-preserved : goal.loop-i-preserved
 loop-i-preserved c =
@@ -38,7 +38,7 @@ loop-i-preserved c =
     let new = c.add.new.self in
     let named : old.names.items ++ names_of (source ∷ rest) ≡ names_of sources = subst (λ ss. old.names.items ++ names_of ss ≡ names_of sources) left c.loop-i.invariant.names in
     let completes : Completes i (contents (source ∷ rest)) (contents sources) old.blocks.items old.parts.items =
-        subst (λ ss. Completes i (contents ss) (contents sources) old.blocks.items old.parts.items) left c.loop-i.invariant.completes in
+    subst (λ ss. Completes i (contents ss) (contents sources) old.blocks.items old.parts.items) left c.loop-i.invariant.completes in
     let refuses : Refuses i (contents (source ∷ rest)) (contents sources) = subst (λ ss. Refuses i (contents ss) (contents sources)) left c.loop-i.invariant.refused in
     record {
       names = names_behind i source rest (names_of sources) old new c.in-Ok.ensures.added named;
