@@ -1,6 +1,7 @@
 #!/bin/sh
-# Times `check` over sources of 256 KiB and 1 MiB of four shapes: expressions in 200 parentheses, some 10,000 and 40,000
-# items, a chain of as many operators, and an array of as many items.
+# Times `check` over sources of 256 KiB and 1 MiB of five shapes: expressions in 200 parentheses, some 10,000 and 40,000
+# items, a chain of as many operators, an array of as many items, and as many items that each use the name of an earlier
+# one.
 #
 #   COMMAND="./obliq check" bench/check.sh
 #
@@ -13,10 +14,13 @@ runs=${RUNS:-5}
 folder=$(mktemp -d)
 trap 'rm -rf "$folder"' EXIT
 
-# make_source SHAPE BYTES FILE: as many pieces of 26 bytes as fit (of 402 for parentheses), filled up with spaces
+# make_source SHAPE BYTES FILE: as many pieces of some 26 bytes as fit (of 402 for parentheses), filled up with spaces
 make_source() {
     awk -v shape="$1" -v size="$2" 'BEGIN {
-        opening = shape == "chain" ? "x" : shape == "array" ? "[0" : ""
+        name = sprintf("name_%018d", 0)
+        opening = shape == "array" ? "[0" : ""
+        if (shape == "chain") opening = "let " name " = 1;\n" name
+        if (shape == "names") opening = "let n0000000 = 0;\n "
         closing = shape == "array" ? "]" : ""
         nest = "1"
         for (level = 0; level < 200; level++) nest = "(" nest ")"
@@ -25,8 +29,9 @@ make_source() {
         for (k = 0; ; k++) {
             if (shape == "nesting") text = nest ";"
             if (shape == "items") text = sprintf("let n%07d = %010d;\n ", k, k)
-            if (shape == "chain") text = sprintf(" +\n name_%018d", k)
+            if (shape == "chain") text = " +\n " name
             if (shape == "array") text = sprintf(",\n %023d", k)
+            if (shape == "names") text = sprintf("let n%07d = n%07d;\n ", k + 1, int(k / 2))
             if (so_far + length(text) > size) break
             printf "%s", text
             so_far += length(text)
@@ -44,7 +49,7 @@ read_source() {
 }
 
 time_nothing
-for shape in nesting items chain array; do
+for shape in nesting items chain array names; do
     make_source "$shape" 262144 "$folder/small"
     make_source "$shape" 1048576 "$folder/large"
     small=$(best_time "$folder/small")

@@ -1,4 +1,4 @@
-use Rattle.obq_run.proofs.tests.shapes.+show.Given as goal
+use Rattle.obq_front.proofs.tests.shapes.+show.Given as goal
 
 -- the fuel that is left
 abbrev pub decreases-show_arms : goal.decreases-show_arms

@@ -1,4 +1,8 @@
-use crate::tests::calls::outcome_of;
+//! What the grammar accepts and refuses.
+
+use obq_lex::lex;
+use obq_parse::{ParseRefused, parse};
+use std::alloc::Global;
 use std::test::Fail;
 
 /// Programs, one a line. Each production of the grammar, and each of its optional parts, is in one of
@@ -402,26 +406,39 @@ const REFUSED: &str = r#"
 1 exit 1
 "#;
 
+/// What the grammar says of a source.
+fn told_of(alloc: Global, source: &[u8]) -> Result<String, Fail> {
+    if source.len() > 1_000_000 {
+        return Ok(String::from_str(alloc, "too long")?);
+    }
+    let Ok(tokens) = lex(alloc, source) else {
+        return Ok(String::from_str(alloc, "no tokens")?);
+    };
+    match parse(alloc, &tokens) {
+        Ok(tree) => {
+            drop(tree);
+            Ok(String::from_str(alloc, "accepted")?)
+        }
+        Err(ParseRefused::Syntax { token }) => Ok(format!(in alloc; "{token}")?),
+        Err(ParseRefused::NoMemory) => Ok(String::from_str(alloc, "no memory")?),
+    }
+}
+
 #[test]
 fn accepted_sources(rt: HostRuntime) -> Result<(), Fail> {
-    let alloc = rt.alloc();
     for source in ACCEPTED.split('\n') {
-        let found = outcome_of(&rt, alloc, "check A=a", source.as_bytes(), &[], 4096)?;
-        assert_eq!(rt; found.err.as_slice(), "".as_bytes(), "{source}");
-        assert_eq!(rt; found.out.as_slice(), "A ok\n".as_bytes(), "{source}");
+        let found = told_of(rt.alloc(), source.as_bytes())?;
+        assert_eq!(rt; found.as_str(), "accepted", "{source}");
     }
     Ok(())
 }
 
 #[test]
 fn refused_sources(rt: HostRuntime) -> Result<(), Fail> {
-    let alloc = rt.alloc();
     for row in REFUSED.split('\n') {
         if let Some((token, source)) = row.split_once(' ') {
-            let found = outcome_of(&rt, alloc, "check A=a", source.as_bytes(), &[], 4096)?;
-            let want = format!(in alloc; "A: syntax at token {token}\n")?;
-            assert_eq!(rt; found.err.as_slice(), want.as_bytes(), "{source}");
-            assert_eq!(rt; found.status, 3, "{source}");
+            let found = told_of(rt.alloc(), source.as_bytes())?;
+            assert_eq!(rt; found.as_str(), token, "{source}");
         }
     }
     Ok(())

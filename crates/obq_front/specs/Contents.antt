@@ -1,0 +1,25 @@
+-- What sources hold, and the program that they give.
+use Rattle.std.specs.Prelude.{List, [], length, map, ℕ, ◌≡◌, ◌≤◌, ◌∷◌}
+use Rattle.obq_front.specs.declared.program.Program.{Program}
+use Rattle.obq_front.specs.declared.program.Source.{Source}
+use Rattle.obq_model.specs.Resolved.{AreResolved}
+use Rattle.obq_model.specs.Sources.{AreAccepted}
+
+-- the bytes of each source
+abbrev pub contents : List Source → List (List ℕ)
+contents sources = map (λ s. s.bytes.items) sources
+
+-- the names of their sites
+abbrev pub names_of : List Source → List (List ℕ)
+names_of sources = map (λ s. s.name) sources
+
+-- each source is within the limit
+abbrev pub AllWithin : ℕ → List (List ℕ) → Type 0
+AllWithin limit [] = Unit {0}
+AllWithin limit (source ∷ sources) = (length source ≤ limit) × AllWithin limit sources
+
+-- the sources are accepted, and these are their names, their trees and the codes of these
+pub record IsProgram (sources : List Source) (program : Program) : Type 0 where
+  pub names : program.names.items ≡ names_of sources
+  pub accepted : AreAccepted (contents sources) program.blocks.items
+  pub resolved : AreResolved 0 program.blocks.items program.codes

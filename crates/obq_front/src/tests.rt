@@ -1,0 +1,6 @@
+mod codes;
+mod names;
+mod several;
+mod shapes;
+mod sites;
+mod tables;
