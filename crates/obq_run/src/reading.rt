@@ -21,11 +21,7 @@ pub struct Stopped {
 }
 
 /// Reads the source of a site.
-fn read_source<F: Files>(
-    alloc: Global,
-    files: &mut F,
-    site: &SiteWord,
-) -> Result<Source, Unread>
+fn read_source<F: Files>(alloc: Global, files: &mut F, site: &SiteWord) -> Result<Source, Unread>
     ensures same { (n : List ℕ) → F.holds files.new n ≡ F.holds files.old n }
     ensures later { (n : List ℕ) → F.faults files.old n ≤ F.faults files.new n }
     ensures named { IfOk result (λ s. s.name ≡ site.now.name) }
@@ -54,21 +50,15 @@ pub fn read_sources<F: Files>(
 {
     let mut sources = Vec::new(alloc);
     for (i, site) in sites.iter().enumerate() {
+        let file = i as u16;
         match read_source(alloc, files, site) {
             Ok(source) => {
                 if sources.push(source).is_err() {
-                    return Err(Stopped {
-                        file: i as u16,
-                        why: Unread::NoMemory,
-                    });
+                    let why = Unread::NoMemory;
+                    return Err(Stopped { file, why });
                 }
             }
-            Err(why) => {
-                return Err(Stopped {
-                    file: i as u16,
-                    why,
-                });
-            }
+            Err(why) => return Err(Stopped { file, why }),
         }
     }
     Ok(sources)

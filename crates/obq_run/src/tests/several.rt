@@ -9,7 +9,8 @@ const CHECK: &str = "check A=a E=e";
 const RUN: &str = "run A=a E=e";
 
 /// An object that moves to the site of an engine.
-const TRAVELLER: &str = "let e = net_importEngine(\"e\", \"namer\"); let c = {serialized, n => 0, inc => meth(s) s.n := s.n + 1 end, move => meth(s, e) let d = e(proc(arg) clone(s) end); redirect s to d end end}; c.inc(); c.move(e); c.inc(); wr_putText(stdout, fmt_int(c.n));";
+const TRAVELLER: &str =
+    "let e = net_importEngine(\"e\", \"namer\"); let c = {serialized, n => 0, inc => meth(s) s.n := s.n + 1 end, move => meth(s, e) let d = e(proc(arg) clone(s) end); redirect s to d end end}; c.inc(); c.move(e); c.inc(); wr_putText(stdout, fmt_int(c.n));";
 
 const ENGINE: &str = "net_exportEngine(\"e\", \"namer\", 0);";
 
@@ -95,8 +96,16 @@ fn a_table_of_pairs(rt: HostRuntime) -> Result<(), Fail> {
         let second = pair.second;
         let sources = [first.as_bytes(), second.as_bytes()];
         let found = outcome_of(&rt, rt.alloc(), CHECK, &sources, &[], 4096)?;
-        assert_eq!(rt; found.err.as_slice(), pair.err.as_bytes(), "{first} {second}");
-        assert_eq!(rt; found.out.as_slice(), pair.out.as_bytes(), "{first} {second}");
+        assert_eq!(rt;
+            found.err.as_slice(),
+            pair.err.as_bytes(),
+            "{first} {second}"
+        );
+        assert_eq!(rt;
+            found.out.as_slice(),
+            pair.out.as_bytes(),
+            "{first} {second}"
+        );
         assert_eq!(rt; found.status, pair.status, "{first} {second}");
     }
     Ok(())
@@ -106,7 +115,13 @@ fn a_table_of_pairs(rt: HostRuntime) -> Result<(), Fail> {
 fn runs_of_several_sources(rt: HostRuntime) -> Result<(), Fail> {
     let alloc = rt.alloc();
     let found = outcome_of(&rt, alloc, RUN, &[b"", b"ok"], &[], 4096)?;
-    assert_eq!(rt; found.cause, Cause::NotYet { source: 1, token: 0 });
+    assert_eq!(rt;
+        found.cause,
+        Cause::NotYet {
+            source: 1,
+            token: 0
+        }
+    );
     assert_eq!(rt; found.err.as_slice(), "E: not yet at token 0\n".as_bytes());
     assert_eq!(rt; found.status, 9);
     assert!(rt; found.out.is_empty());
@@ -149,7 +164,10 @@ fn lines_of_many_sites(rt: HostRuntime) -> Result<(), Fail> {
     let line = "run A=a B=a C=a D=a E=e F=a G=a H=a I=a J=a K=a L=a M=a N=a O=a P=a Q=a";
     let found = outcome_of(&rt, alloc, line, &[b"", b""], &[], 4096)?;
     assert_eq!(rt; found.cause, Cause::TooManySites { word: 17 });
-    assert_eq!(rt; found.err.as_slice(), "too many sites: word 17\n".as_bytes());
+    assert_eq!(rt;
+        found.err.as_slice(),
+        "too many sites: word 17\n".as_bytes()
+    );
     assert_eq!(rt; found.status, 7);
     assert!(rt; found.out.is_empty());
     Ok(())
