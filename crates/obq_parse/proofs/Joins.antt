@@ -37,13 +37,6 @@ use Rattle.obq_parse.specs.Reading.{ReadsRest}
 pub as_block : {is js : List Item} {p q : ℕ} {x r : List Token} → is ≡ js → p ≡ q → IsBlock (block js q) x r → IsBlock (block is p) x r
 as_block {is = is} {q = q} {x = x} {r = r} e o d = subst (λ (n : ℕ). IsBlock (block is n) x r) (sym o) (subst (λ (l : List Item). IsBlock (block l q) x r) (sym e) d)
 
-yes_other : (a b : Bool) → Yes (a || b) → No a → Yes b
-yes_other true b y n = absurd n
-yes_other false b y n = y
-
-pub item_block : (x : List Token) → EndsItem (next x) → No (is_word sym_semicolon (next x)) → EndsBlock (next x)
-item_block x e n = yes_other (is_word sym_semicolon (next x)) (among closers (next x)) e n
-
 -- what ends its item
 
 pub ended_fault : {A : Type 0} {L : A → List Token → List Token → Type 0} {S : TokenKind → Type 0} {x : List Token} {Q : List Token → Type 0} (read : Result (A × Bor (List Token)) Refused) (e : Refused) → Ended read (Err e) → Reads L S x read →
