@@ -1,5 +1,5 @@
 -- What the parser's functions hand on, over plain lists of tokens.
-use Rattle.std.proofs.Common.{◌≡◌, ◌<◌, ℕ, ◌+◌, suc, Bool, true, false, ◌||◌, List, ◌∷◌, Result, Ok, Err, sym, subst, ap, ◌∙◌, arith}
+use Rattle.std.proofs.Common.{◌≡◌, ◌<◌, ℕ, ◌+◌, suc, List, ◌∷◌, Result, Ok, Err, sym, subst, ap, ◌∙◌, arith}
 use Rattle.std.specs.Borrow.{Bor}
 use Rattle.obq_base.specs.declared.tokens.TokenKind.{TokenKind}
 use Rattle.obq_base.specs.declared.tokens.Token.{Token}
@@ -10,10 +10,10 @@ use Rattle.obq_base.specs.declared.trees.Item.TheVariants as i
 use Rattle.obq_base.specs.declared.trees.Link.{Link}
 use Rattle.obq_base.specs.declared.trees.Suffix.{Suffix}
 use Rattle.obq_model.specs.Nodes.{block, chained, next, place, suffixed, token}
-use Rattle.obq_model.specs.Words.{sym_assign, sym_semicolon}
+use Rattle.obq_model.specs.Words.{sym_assign}
 use Rattle.obq_model.specs.Grammar.{IsBlock, IsExpr, IsFieldBody, IsItem, IsLevel, IsLinks, IsSuffixed, expr, level, operand}
 use Rattle.obq_grammar.specs.Fails.{Fails}
-use Rattle.obq_grammar.specs.Follow.{among, closers, continues, is_word, operators, EndsBlock, EndsExpr, EndsItem, EndsLevel, No, Yes}
+use Rattle.obq_grammar.specs.Follow.{among, continues, operators, EndsExpr, EndsItem, EndsLevel, No}
 use Rattle.obq_grammar.proofs.Sets.{no_both}
 use Rattle.obq_sequence.specs.Parts.{IsRest}
 use Rattle.obq_sequence.proofs.Levels.{expr_at_1, rest_at_2}
