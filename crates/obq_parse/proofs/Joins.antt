@@ -1,5 +1,5 @@
 -- What the parser's functions hand on, over plain lists of tokens.
-use Rattle.std.proofs.Common.{◌≡◌, ◌<◌, ℕ, ◌+◌, suc, Bool, true, false, ◌||◌, List, ◌∷◌, Result, Ok, Err, sym, subst, ap, ◌∙◌, arith}
+use Rattle.std.proofs.Common.{◌≡◌, ◌<◌, ℕ, ◌+◌, suc, List, ◌∷◌, Result, Ok, Err, sym, subst, ap, ◌∙◌, arith}
 use Rattle.std.specs.Borrow.{Bor}
 use Rattle.obq_base.specs.declared.tokens.TokenKind.{TokenKind}
 use Rattle.obq_base.specs.declared.tokens.Token.{Token}
@@ -10,10 +10,10 @@ use Rattle.obq_base.specs.declared.trees.Item.TheVariants as i
 use Rattle.obq_base.specs.declared.trees.Link.{Link}
 use Rattle.obq_base.specs.declared.trees.Suffix.{Suffix}
 use Rattle.obq_model.specs.Nodes.{block, chained, next, place, suffixed, token}
-use Rattle.obq_model.specs.Words.{sym_assign, sym_semicolon}
+use Rattle.obq_model.specs.Words.{sym_assign}
 use Rattle.obq_model.specs.Grammar.{IsBlock, IsExpr, IsFieldBody, IsItem, IsLevel, IsLinks, IsSuffixed, expr, level, operand}
 use Rattle.obq_grammar.specs.Fails.{Fails}
-use Rattle.obq_grammar.specs.Follow.{among, closers, continues, is_word, operators, EndsBlock, EndsExpr, EndsItem, EndsLevel, No, Yes}
+use Rattle.obq_grammar.specs.Follow.{among, continues, operators, EndsExpr, EndsItem, EndsLevel, No}
 use Rattle.obq_grammar.proofs.Sets.{no_both}
 use Rattle.obq_sequence.specs.Parts.{IsRest}
 use Rattle.obq_sequence.proofs.Levels.{expr_at_1, rest_at_2}
@@ -36,13 +36,6 @@ use Rattle.obq_parse.specs.Reading.{ReadsRest}
 
 pub as_block : {is js : List Item} {p q : ℕ} {x r : List Token} → is ≡ js → p ≡ q → IsBlock (block js q) x r → IsBlock (block is p) x r
 as_block {is = is} {q = q} {x = x} {r = r} e o d = subst (λ (n : ℕ). IsBlock (block is n) x r) (sym o) (subst (λ (l : List Item). IsBlock (block l q) x r) (sym e) d)
-
-yes_other : (a b : Bool) → Yes (a || b) → No a → Yes b
-yes_other true b y n = absurd n
-yes_other false b y n = y
-
-pub item_block : (x : List Token) → EndsItem (next x) → No (is_word sym_semicolon (next x)) → EndsBlock (next x)
-item_block x e n = yes_other (is_word sym_semicolon (next x)) (among closers (next x)) e n
 
 -- what ends its item
 

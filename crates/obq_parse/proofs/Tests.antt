@@ -27,12 +27,6 @@ use Rattle.obq_parts.specs.Openings.{opening_kind}
 use Rattle.obq_parts.specs.Reads.{Reads}
 use Rattle.obq_parts.proofs.Pass.{close_cases, pass}
 
-pub is_true : {b : Bool} {P : Type 0} → b ≡ true → (IsTrue b ↔ P) → P
-is_true e w = w.0 e
-
-pub not_true : {b : Bool} {P : Type 0} → b ≡ false → (IsTrue b ↔ P) → P → ⊥
-not_true e w p = let t : IsTrue _ = w.1 p in cc (e, t)
-
 pub begun : {b c : Bool} → b ≡ true → (IsTrue b ↔ IsTrue c) → No c → ⊥
 begun e w n = subst No (w.0 e) n
 

@@ -16,17 +16,16 @@ use obq_base::{
 };
 use obq_parts::words::{
     ALIAS, ARROW, ASSIGN, CLOSE, CLOSE_BRACE, CLOSE_BRACKET, COMMA, DO, DOT, ELSE, ELSIF, END,
-    EQUALS, EXCEPT, FINALLY, IN, LET, METH, OF, OPEN, OPEN_BRACKET, PROC, REC, SEMICOLON, THEN, TO,
-    UNTIL, VAR,
+    EQUALS, EXCEPT, FINALLY, IN, LET, METH, OF, OPEN, OPEN_BRACKET, REC, THEN, TO, UNTIL, VAR,
 };
 use obq_parts::{
-    Chain, ObjectHead, Opening, Refused, Target, Word, alias_node, application, array_node,
-    assignment, begins_suffix, bind_node, chained, clone_node, ended, ends_block, ends_expr,
-    field_assignment, field_node, finally_node, for_node, foreach_node, front, if_node, index_node,
-    invocation, loop_node, method_node, object_node, place_of, procedure_node, raise_node,
-    read_closed_names, read_literal, read_object_head, read_parameters, rec_bind_node,
-    redirect_node, selection, suffixed, take_name, take_opening, take_operator, take_word,
-    target_of, try_node, value_node, watch_node,
+    Chain, ObjectHead, Onward, Opening, Refused, Target, Word, alias_node, application, array_node,
+    assignment, begins_suffix, behind_item, bind_node, chained, clone_node, ended, ends_block,
+    ends_expr, field_assignment, field_node, finally_node, for_node, foreach_node, front, if_node,
+    index_node, invocation, loop_node, method_node, object_node, operand_level, place_of,
+    procedure_node, raise_node, read_closed_names, read_literal, read_object_head, read_parameters,
+    rec_bind_node, redirect_node, selection, suffixed, take_name, take_opening, take_operator,
+    take_procedure, take_word, target_of, try_node, value_node, watch_node, with_arm,
 };
 use sqlite_items::Items;
 use std::alloc::Global;
@@ -129,15 +128,16 @@ fn read_more<'a>(alloc: Global, tokens: &'a [Token]) -> Read<'a, Items<Item>>
 {
     let mut items = Items::new(alloc);
     let mut rest = tokens;
-    while let Some((_, behind)) = take_word(SEMICOLON, rest) {
-        if ends_block(behind) {
-            return Ok((items, behind));
+    loop {
+        match behind_item(rest) {
+            Onward::Item(behind) => {
+                let (item, after) = read!(read_item(alloc, behind));
+                have!(items.push(item));
+                rest = after;
+            }
+            Onward::End(behind) => return Ok((items, behind)),
         }
-        let (item, after) = read!(read_item(alloc, behind));
-        have!(items.push(item));
-        rest = after;
     }
-    Ok((items, rest))
 }
 
 #[cycle(parse)]
@@ -309,7 +309,7 @@ fn read_proc<'a>(alloc: Global, tokens: &'a [Token]) -> Read<'a, Proc>
     ensures read { Reads g.IsProc Anything tokens.now result }
     ensures shorter { IfOk result (λ p. length p.1.now < length tokens.now) }
 {
-    let Some((place, rest)) = take_word(PROC, tokens) else {
+    let Some((place, rest)) = take_procedure(tokens) else {
         return Err(Refused::Syntax(tokens));
     };
     let rest = skip!(OPEN, rest);
@@ -359,7 +359,7 @@ fn read_links<'a>(alloc: Global, level: u32, tokens: &'a [Token]) -> Read<'a, It
     let mut links = Items::new(alloc);
     let mut rest = tokens;
     while let Some((operator, place, behind)) = take_operator(level, rest) {
-        let (operand, after) = read!(read_level(alloc, level, behind));
+        let (operand, after) = read!(read_level(alloc, operand_level(level), behind));
         let link = Link {
             operator,
             operand,
@@ -637,7 +637,7 @@ fn read_elsifs<'a>(alloc: Global, tokens: &'a [Token]) -> Read<'a, Items<Arm>>
     let mut rest = tokens;
     while let Some((_, behind)) = take_word(ELSIF, rest) {
         let (arm, after) = read!(read_arm(alloc, behind));
-        have!(arms.push(arm));
+        arms = have!(with_arm(arms, arm));
         rest = after;
     }
     Ok((arms, rest))
@@ -654,7 +654,7 @@ fn read_guards<'a>(alloc: Global, tokens: &'a [Token]) -> Read<'a, Items<Arm>>
     let mut rest = tokens;
     while let Some((_, behind)) = take_word(EXCEPT, rest) {
         let (arm, after) = read!(read_guard(alloc, behind));
-        have!(arms.push(arm));
+        arms = have!(with_arm(arms, arm));
         rest = after;
     }
     Ok((arms, rest))

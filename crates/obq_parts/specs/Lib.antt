@@ -1,3 +1,4 @@
+pub mod Blocks
 pub mod Closed
 pub mod Objects
 pub mod Openings

@@ -2,6 +2,7 @@
 //! tree, and what an item assigns to.
 #![tactic(auto)]
 
+mod blocks;
 mod literals;
 mod names;
 mod nodes;
@@ -12,6 +13,7 @@ mod steps;
 mod targets;
 pub mod words;
 
+pub use blocks::{Onward, behind_item, with_arm};
 pub use literals::read_literal;
 pub use names::{read_closed_names, read_parameters};
 pub use nodes::{
@@ -21,8 +23,8 @@ pub use nodes::{
     try_node, value_node, watch_node,
 };
 pub use objects::{ObjectHead, read_object_head};
-pub use openings::{Opening, take_opening};
-pub use operators::take_operator;
+pub use openings::{Opening, take_opening, take_procedure};
+pub use operators::{operand_level, take_operator};
 pub use steps::{
     Refused, Word, begins_suffix, ended, ends_block, ends_expr, ends_item, is_end, place_of,
     take_name, take_word,

@@ -2,9 +2,12 @@
 
 ghost use Rattle.std.specs.Prelude.{◌≡◌, ◌∷◌, ◌<◌, IfSome, MatchOption, length};
 ghost use Rattle.obq_model.specs.Nodes.{next, token};
-ghost use Rattle.obq_grammar.specs.Follow.{among, No};
+ghost use Rattle.obq_model.specs.Words.{kw_proc};
+ghost use Rattle.obq_grammar.specs.Follow.{among, is_word, No};
 ghost use Rattle.obq_parts.specs.Openings.{opening_kind, openings};
 
+use crate::steps::take_word;
+use crate::words::PROC;
 use obq_base::{Token, TokenKind};
 
 /// A word that opens an expression of several parts.
@@ -56,4 +59,12 @@ pub fn take_opening(tokens: &[Token]) -> Option<(Opening, u32, &[Token])>
         Some(opening) => Some((opening, token.place, rest)),
         None => None,
     }
+}
+
+/// The place of the `proc` that a procedure begins with and the tokens behind it.
+pub fn take_procedure(tokens: &[Token]) -> Option<(u32, &[Token])>
+    ensures found { MatchOption result (No (is_word kw_proc (next tokens.now))) (λ found. tokens.now ≡ token kw_proc found.0 ∷ found.1.now) }
+    ensures shorter { IfSome result (λ found. length found.1.now < length tokens.now) }
+{
+    take_word(PROC, tokens)
 }

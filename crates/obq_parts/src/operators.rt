@@ -61,3 +61,10 @@ pub fn take_operator(level: u32, tokens: &[Token]) -> Option<(Operator, u32, &[T
         None => None,
     }
 }
+
+/// The level of the operand behind an operator of a level, since operators of one level group to the left.
+pub fn operand_level(level: u32) -> u32
+    ensures { result ≡ level }
+{
+    level
+}

@@ -3,11 +3,12 @@ use Rattle.obq_parts.specs.declared.targets.Target.TheVariants as target
 use Rattle.obq_sequence.proofs.Bindings as procs
 use Rattle.obq_grammar.proofs.Theory.{as_tree, done, move, re, upto}
 use Rattle.obq_grammar.specs.Follow.{Anything, EndsArgs, EndsExpr, EndsItem, EndsLevel, EndsNames}
-use Rattle.obq_model.specs.Grammar.{IsArgs, IsArray, IsBind, IsBinds, IsBlock, IsCall, IsDotted, IsElse, IsExpr, IsField, IsFieldBody, IsFields, IsItem, IsLevel, IsPrim, IsRecBind, IsRecBinds, IsSuffix, IsTry, chain, empty, items, let_binds, level, method, no_argument, no_element, no_else, no_elsif, no_guard, no_link, no_more, no_suffix, plain, proc_of, select, value}
+use Rattle.obq_model.specs.Grammar.{IsArgs, IsArray, IsBind, IsBinds, IsBlock, IsCall, IsDotted, IsElse, IsExpr, IsField, IsFieldBody, IsFields, IsItem, IsLevel, IsPrim, IsRecBind, IsRecBinds, IsSuffix, IsTry, chain, empty, items, let_binds, level, method, no_argument, no_element, no_else, no_elsif, no_guard, no_link, no_suffix, plain, proc_of, select, value}
 use Rattle.obq_model.specs.Nodes.{next}
-use Rattle.obq_parse.proofs.Joins.{as_block, ended_fault, ended_ok, ends_links, ends_up, field_end, field_fails, field_item, first_level, item_block, level_by, level_fails, rest_fault, rest_more, rest_ok, rest_top, targets_as, top_level, value_end, value_fails, value_item}
-use Rattle.obq_parse.proofs.Tests.{begun, block_elsifs, block_guards, dotted_reads, empty_object, if_arms, is_true, no_paren, no_suffix_word, not_begun, not_true, opened_by, paren_reads, prim_proc, try_arms, try_reads, up}
+use Rattle.obq_parse.proofs.Joins.{as_block, ended_fault, ended_ok, ends_links, ends_up, field_end, field_fails, field_item, first_level, level_by, level_fails, rest_fault, rest_more, rest_ok, rest_top, targets_as, top_level, value_end, value_fails, value_item}
+use Rattle.obq_parse.proofs.Tests.{begun, block_elsifs, block_guards, dotted_reads, empty_object, if_arms, no_paren, no_suffix_word, not_begun, opened_by, paren_reads, prim_proc, try_arms, try_reads, up}
 use Rattle.obq_parts.proofs.Again.{args_again, args_last, binds_again, binds_last, ends_args, fields_again, fields_last, rec_binds_again, rec_binds_last}
+use Rattle.obq_parts.proofs.Ends.{is_true, not_true}
 use Rattle.obq_parts.proofs.Pass.{close_cases, pass, reads_at}
 use Rattle.obq_parts.specs.Closed.{inside, unclosed}
 use Rattle.obq_parts.specs.Targets.{IsNoTarget}
@@ -19,9 +20,9 @@ use Rattle.obq_sequence.proofs.Lets.{excepts_at_2, excepts_at_3, excepts_at_4, e
 use Rattle.obq_sequence.proofs.Levels.{level_at_1, level_at_2, one_link_at_2, one_link_step, operand_at_1, rest_at_1}
 use Rattle.obq_sequence.proofs.Objects.{object_at_2, object_of}
 use Rattle.obq_sequence.proofs.Primaries.{array_at_2, array_of, clone_at_2, clone_at_3, clone_at_4, clone_of, for_at_2, for_at_3, for_at_4, for_at_5, for_at_6, for_at_7, for_at_8, for_at_9, for_of, foreach_at_2, foreach_at_3, foreach_at_4, foreach_at_5, foreach_at_6, foreach_at_7, foreach_of, if_at_2, if_at_3, if_at_4, if_of, loop_at_2, loop_at_3, loop_of, raise_at_2, raise_at_3, raise_at_4, raise_of, redirect_at_2, redirect_at_3, redirect_at_4, redirect_at_5, redirect_of, watch_at_2, watch_at_3, watch_at_4, watch_at_5, watch_of}
-use Rattle.obq_sequence.proofs.Stops.{else_stop, more_at_2, more_step, proc_at_1, semicolon_of, try_stop}
+use Rattle.obq_sequence.proofs.Stops.{else_stop, more_at_2, more_step, proc_at_1, try_stop}
 use Rattle.obq_sequence.proofs.Suffixes.{apply_at_2, apply_of, chain_at_1, chain_at_2, dotted_at_2, index_at_2, index_at_3, index_of, invoke_at_2, invoke_of, one_suffix_at_1, one_suffix_step, suffix_stop}
-use Rattle.std.proofs.Common.{arith, refl, rules}
+use Rattle.std.proofs.Common.{arith, refl, rules, sym}
 use Rattle.obq_parse.proofs.parser.+parse.Goals as goal
 
 pub read_until-returns-in-Err-clause-read : goal.read_until-returns-in-Err-clause-read
@@ -54,21 +55,18 @@ read_block-returns-in-Err-read_more-clause-read size c = pass c.in-Err-read_more
 pub read_block-returns-clause-read : goal.read_block-returns-clause-read
 read_block-returns-clause-read size c = (as_block c.in-Ok-front.ensures c.place_of-place.ensures (items c.in-Ok.ensures.read.0 c.in-Ok-read_more.ensures.read.0), c.in-Ok-read_more.ensures.read.1)
 
-pub read_more-returns-then-ends_block-clause-read : goal.read_more-returns-then-ends_block-clause-read
-read_more-returns-then-ends_block-clause-read size c = (done c.loop-behind.invariant.leads (semicolon_of c.in-Some.ensures.found), is_true c.if-ends_block.true c.ends_block.ensures)
+pub read_more-returns-in-End-clause-read : goal.read_more-returns-in-End-clause-read
+read_more-returns-in-End-clause-read size c = (done c.loop-behind.invariant.leads c.in-End.ensures.onward.0, c.in-End.ensures.onward.1)
 
 pub read_more-returns-in-Err-clause-read : goal.read_more-returns-in-Err-clause-read
-read_more-returns-in-Err-clause-read size c = pass c.in-Err.refused (λ z f. c.loop-behind.invariant.leads.fails z (more_at_2 c.in-Some.ensures.found (not_true c.if-ends_block.false c.ends_block.ensures) f)) c.in-Err.ensures.read
+read_more-returns-in-Err-clause-read size c = pass c.in-Err.refused (λ z f. c.loop-behind.invariant.leads.fails z (more_at_2 c.in-Item.ensures.onward.1 c.in-Item.ensures.onward.2 f)) c.in-Err.ensures.read
 
 pub read_more-loop-behind-preserved : goal.read_more-loop-behind-preserved
 read_more-loop-behind-preserved size c = record {
-  leads = re c.in-Ok-push.ensures.ok (more_step c.loop-behind.invariant.leads c.in-Some.ensures.found c.in-Ok.ensures.read.0 c.in-Ok.ensures.read.1);
+  leads = re c.in-Ok-push.ensures.ok (more_step c.loop-behind.invariant.leads c.in-Item.ensures.onward.1 c.in-Ok.ensures.read.0 c.in-Ok.ensures.read.1);
   ends = c.in-Ok.ensures.read.1;
-  shorter = omega (arith, c.in-Some.ensures.shorter, c.in-Ok.ensures.shorter, c.loop-behind.invariant.shorter);
+  shorter = omega (arith, c.in-Item.ensures.shorter, c.in-Ok.ensures.shorter, c.loop-behind.invariant.shorter);
 }
-
-pub read_more-returns-clause-read : goal.read_more-returns-clause-read
-read_more-returns-clause-read size c = (done c.loop-behind.invariant.leads no_more, item_block c.loop-behind.rest.now c.loop-behind.invariant.ends c.in_default.ensures.found)
 
 pub read_item-returns-in-Some-clause-read : goal.read_item-returns-in-Some-clause-read
 read_item-returns-in-Some-clause-read size c = reads_at IsItem EndsItem _ c.in-Some.ensures.found c.read_let.ensures.read
@@ -278,12 +276,12 @@ pub read_rest-read_rest-requires : goal.read_rest-read_rest-requires
 read_rest-read_rest-requires size c = let e : EndsLevel (c.args.level + 1) (next c.in-Ok.found.1.now) = ends_up c.args.level c.in-Ok.found.1.now c.in-Ok.ensures.read.1 in search rules
 
 pub read_links-returns-in-Err-clause-read : goal.read_links-returns-in-Err-clause-read
-read_links-returns-in-Err-clause-read size c = pass c.in-Err.refused (λ z f. c.loop-operator.invariant.leads.fails z (one_link_at_2 c.in-Some.ensures.found.2 c.in-Some.ensures.found.1 f)) c.in-Err.ensures.read
+read_links-returns-in-Err-clause-read size c = pass c.in-Err.refused (λ z f. c.loop-operator.invariant.leads.fails z (one_link_at_2 c.in-Some.ensures.found.2 c.in-Some.ensures.found.1 (level_fails (sym c.operand_level.ensures) f))) c.in-Err.ensures.read
 
 pub read_links-loop-operator-preserved : goal.read_links-loop-operator-preserved
 read_links-loop-operator-preserved size c = record {
-  leads = re c.in-Ok-push.ensures.ok (one_link_step c.loop-operator.invariant.leads c.in-Some.ensures.found.2 c.in-Some.ensures.found.1 c.in-Ok.ensures.read.0 c.in-Ok.ensures.read.1);
-  ends = c.in-Ok.ensures.read.1;
+  leads = let d = level_by (sym c.operand_level.ensures) c.in-Ok.ensures.read in re c.in-Ok-push.ensures.ok (one_link_step c.loop-operator.invariant.leads c.in-Some.ensures.found.2 c.in-Some.ensures.found.1 d.0 d.1);
+  ends = (level_by (sym c.operand_level.ensures) c.in-Ok.ensures.read).1;
   shorter = omega (arith, c.in-Some.ensures.shorter, c.in-Ok.ensures.shorter, c.loop-operator.invariant.shorter);
 }
 
@@ -478,7 +476,7 @@ read_elsifs-returns-in-Err-clause-read size c = pass c.in-Err.refused (λ z f. c
 
 pub read_elsifs-loop-behind-preserved : goal.read_elsifs-loop-behind-preserved
 read_elsifs-loop-behind-preserved size c = record {
-  leads = re c.in-Ok-push.ensures.ok (one_elsif_step c.loop-behind.invariant.leads c.in-Some.ensures.found c.in-Ok.ensures.read.0 c.in-Ok.ensures.read.1);
+  leads = re c.in-Ok-with_arm.ensures (one_elsif_step c.loop-behind.invariant.leads c.in-Some.ensures.found c.in-Ok.ensures.read.0 c.in-Ok.ensures.read.1);
   ends = c.in-Ok.ensures.read.1;
   shorter = omega (arith, c.in-Some.ensures.shorter, c.in-Ok.ensures.shorter, c.loop-behind.invariant.shorter);
 }
@@ -491,7 +489,7 @@ read_guards-returns-in-Err-clause-read size c = pass c.in-Err.refused (λ z f. c
 
 pub read_guards-loop-behind-preserved : goal.read_guards-loop-behind-preserved
 read_guards-loop-behind-preserved size c = record {
-  leads = re c.in-Ok-push.ensures.ok (one_guard_step c.loop-behind.invariant.leads c.in-Some.ensures.found c.in-Ok.ensures.read.0 c.in-Ok.ensures.read.1);
+  leads = re c.in-Ok-with_arm.ensures (one_guard_step c.loop-behind.invariant.leads c.in-Some.ensures.found c.in-Ok.ensures.read.0 c.in-Ok.ensures.read.1);
   ends = c.in-Ok.ensures.read.1;
   shorter = omega (arith, c.in-Some.ensures.shorter, c.in-Ok.ensures.shorter, c.loop-behind.invariant.shorter);
 }

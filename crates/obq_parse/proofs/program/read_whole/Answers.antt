@@ -1,6 +1,6 @@
 use Rattle.obq_grammar.proofs.Top.{whole_near, whole_stop}
+use Rattle.obq_parts.proofs.Ends.{is_true, not_true}
 use Rattle.obq_parts.proofs.Pass.{pass}
-use Rattle.obq_parse.proofs.Tests.{is_true, not_true}
 use Rattle.obq_parse.proofs.program.read_whole.Goals as goal
 
 pub returns-in-Err-clause-read : goal.returns-in-Err-clause-read
