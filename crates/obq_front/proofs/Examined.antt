@@ -1,5 +1,5 @@
 -- Sources that are examined one after another.
-use Rattle.std.proofs.Common.{List, [], ap, arith, drop, get_or, length, subst, suc, sym, zero, ℕ, ◌++◌, ◌+◌, ◌<◌, ◌≡◌, ◌∙◌, ◌∷◌, ◌≤◌}
+use Rattle.std.proofs.Common.{List, [], ap, arith, drop, get_or, length, subst, suc, sym, zero, ℕ, ◌++◌, ◌+◌, ◌<◌, ◌≡◌, ◌∙◌, ◌∷◌}
 use Rattle.std.proofs.lemmas.List.{append-nil, append_assoc}
 use Rattle.std.proofs.Math.Seq.{drop-cons}
 use Rattle.obq_base.specs.declared.code.SourceCode.{SourceCode}

@@ -1,6 +1,6 @@
 //! A place for each name.
 
-ghost use Rattle.std.specs.Prelude.{◌≡◌, IfOk, IsTrue, List, None, OnOk, Some, ℕ, bytes_eq, cond};
+ghost use Rattle.std.specs.Prelude.{◌≡◌, ◌||◌, IfOk, IsTrue, List, None, OnOk, Some, ℕ, bytes_eq, cond, is_some, not};
 ghost use Rattle.obq_scope.specs.PlaceAt.{place_at};
 
 use obq_base::NoMemory;
@@ -44,7 +44,8 @@ impl Places {
 
     /// Gives the name the place that it had before; false where it has none now. It takes no memory.
     pub fn restore(&mut self, name: &[u8], before: Option<usize>) -> bool
-        ensures { IsTrue result → (q : List ℕ) → place_at self.new.map q ≡ cond (bytes_eq name.now q) before (place_at self.old.map q) }
+        ensures answers { result ≡ (not (is_some before) || is_some (place_at self.old.map name.now)) }
+        ensures restored { IsTrue result → (q : List ℕ) → place_at self.new.map q ≡ cond (bytes_eq name.now q) before (place_at self.old.map q) }
     {
         match before {
             None => {
