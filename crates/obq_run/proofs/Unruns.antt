@@ -1,5 +1,5 @@
 -- Why sources that were read and are accepted were not run.
-use Rattle.std.proofs.Common.{List, Option, length, refl, ℕ, ◌≡◌, ◌≤◌, ◌∷◌, [], ◌<◌, arith}
+use Rattle.std.proofs.Common.{List, Option, length, refl, ℕ, ◌≤◌, ◌∷◌, [], ◌<◌, arith}
 use Rattle.obq_base.specs.declared.faults.LexKind.{LexKind}
 use Rattle.obq_base.specs.declared.tokens.Token.{Token}
 use Rattle.obq_base.specs.declared.trees.Block.{Block}

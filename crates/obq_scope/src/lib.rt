@@ -2,6 +2,7 @@
 #![tactic(auto)]
 
 mod binders;
+mod captures;
 mod collect;
 mod counts;
 mod emit;

@@ -76,10 +76,6 @@ given [] e = absurd cc
 given (c ∷ []) e = absurd (fault_no _ (first_chosen (is_command c) (Some (UsageAt 1)) (UsageAt 0) e).1)
 given (c ∷ s ∷ words) e = (omega arith, all_names 1 [] (s ∷ words) (first_chosen _ _ _ e).1 no_names)
 
-distinct_two : IsDistinct bytes_eq ((65 ∷ []) ∷ (69 ∷ []) ∷ [])
-unfolding IsDistinct
-distinct_two = ((refl, tt), (tt, tt))
-
 pub in_form : (words : List (List ℕ)) (sites : List SiteWord) → bad_word words ≡ None → AreSites words sites → AreInForm sites
 in_form words sites good are =
     let names = given words good in
@@ -89,15 +85,4 @@ in_form words sites good are =
       most = omega (arith, same, names.1.most);
       named = rw are.names names.1.named;
       different = rw are.names names.1.different;
-    }
-
--- the sites A and E are in form
-pub two_in_form : (sites : List SiteWord) → names_of sites ≡ (65 ∷ []) ∷ (69 ∷ []) ∷ [] → AreInForm sites
-two_in_form sites names =
-    let two : length sites ≡ 2 = sym (length-map sites (λ s. s.name)) ∙ ap length names in
-    record {
-      some = omega (arith, two);
-      most = omega (arith, two);
-      named = rw names refl;
-      different = rw names distinct_two;
     }

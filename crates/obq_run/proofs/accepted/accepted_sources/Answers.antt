@@ -1,4 +1,4 @@
-use Rattle.std.proofs.Common.{List, subst, sym, ◌≡◌}
+use Rattle.std.proofs.Common.{List, subst, sym}
 use Rattle.obq_front.specs.Contents.{AllWithin, contents}
 use Rattle.obq_front.specs.declared.program.Source.{Source}
 use Rattle.obq_words.specs.Words.{paths_of}

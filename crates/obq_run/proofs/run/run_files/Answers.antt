@@ -1,4 +1,4 @@
-use Rattle.std.proofs.Common.{List, ap, arith, length, subst, sym, ℕ, ◌<◌, ◌≡◌, ◌≤◌, ◌∙◌, ◌∷◌, []}
+use Rattle.std.proofs.Common.{List, ap, arith, length, subst, sym, ℕ, ◌≡◌, ◌≤◌, ◌∙◌, ◌∷◌, []}
 use Rattle.obq_base.specs.declared.trees.Block.{Block}
 use Rattle.obq_front.specs.Contents.{contents}
 use Rattle.obq_model.specs.Sources.{AreAccepted}
@@ -7,7 +7,7 @@ use Rattle.obq_run.specs.Held.{AreHeld}
 use Rattle.obq_run.specs.Runs.{IsNotYetOf}
 use Rattle.obq_words.specs.Words.{paths_of}
 use Rattle.obq_run.proofs.Held.{as_many, only_one}
-use Rattle.obq_run.proofs.Unruns.{never_not_yet, one_within, refused_before, several_stop, unrun_not_yet}
+use Rattle.obq_run.proofs.Unruns.{never_not_yet, one_within, refused_before, unrun_not_yet}
 use Rattle.obq_run.proofs.run.run_files.Goals as goal
 
 pub returns-in-Err-clause-only : goal.returns-in-Err-clause-only
