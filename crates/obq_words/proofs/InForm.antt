@@ -9,7 +9,7 @@ use Rattle.std.specs.List.{IsDistinct, list_all, list_any}
 use Rattle.obq_model.specs.CommandLine.{UsageAt, WordFault, bad_behind_sites, bad_word, is_command, is_site_name, name_part}
 use Rattle.obq_model.specs.Put.{among}
 use Rattle.obq_words.specs.declared.words.SiteWord.{SiteWord}
-use Rattle.obq_words.specs.Words.{AreInForm, AreSites, given_names, names_in, names_of}
+use Rattle.obq_words.specs.Words.{AreInForm, AreSites, given_names, names_in}
 
 -- names as sites may have them
 record AreNames (names : List (List ℕ)) : Type 0 where
