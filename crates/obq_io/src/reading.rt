@@ -14,7 +14,9 @@ const PIECE: usize = 4096;
 /// Why a file was not read.
 #[derive(Clone, Copy, Debug, PartialEq, Eq)]
 pub enum Unread {
+    /// A call on the file failed.
     Fault,
+    /// It has more bytes than the limit; no byte behind the first of these was asked for.
     TooLong,
     NoMemory,
 }

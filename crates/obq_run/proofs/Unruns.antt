@@ -1,5 +1,5 @@
 -- Why sources that were read and are accepted were not run.
-use Rattle.std.proofs.Common.{List, Option, length, refl, ℕ, ◌≤◌, ◌∷◌, [], ◌<◌, arith}
+use Rattle.std.proofs.Common.{List, Option, length, ℕ, ◌≤◌, ◌∷◌, []}
 use Rattle.obq_base.specs.declared.faults.LexKind.{LexKind}
 use Rattle.obq_base.specs.declared.tokens.Token.{Token}
 use Rattle.obq_base.specs.declared.trees.Block.{Block}
@@ -52,12 +52,6 @@ never_faulty source trees kind place h fault = let one = one_accepted source tre
 pub one_within : (holds : List ℕ → Option (List ℕ)) (paths : List (List ℕ)) (source : List ℕ) → AreHeld holds 1048576 paths (source ∷ []) → length source ≤ 1048576
 one_within holds [] source held = absurd held
 one_within holds (p ∷ ps) source held = held.1
-
--- several sources stop at the second
-pub several_stop : (sources : List (List ℕ)) → 1 < length sources → StopsRun sources 1 0
-several_stop [] h = absurd (omega (arith, h))
-several_stop (a ∷ []) h = absurd (omega (arith, h))
-several_stop (a ∷ b ∷ ss) h = (refl, refl)
 
 pub unrun_not_yet : (holds : List ℕ → Option (List ℕ)) (limit : ℕ) (paths : List (List ℕ)) (source : List ℕ) (trees : List Block) (why : Unrun) → AreHeld holds limit paths (source ∷ [])
     → AreAccepted (source ∷ []) trees → IfUnrun why (StopsRun (source ∷ []) 0) → IfNotYet (unrun_cause why) (IsNotYetOf holds limit paths)

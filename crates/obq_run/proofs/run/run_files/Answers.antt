@@ -6,7 +6,7 @@ use Rattle.obq_run.specs.Ends.{IfNotYet}
 use Rattle.obq_run.specs.Held.{AreHeld}
 use Rattle.obq_run.specs.Runs.{IsNotYetOf}
 use Rattle.obq_words.specs.Words.{paths_of}
-use Rattle.obq_run.proofs.Held.{as_many, only_one}
+use Rattle.obq_run.proofs.Held.{as_many, one_source}
 use Rattle.obq_run.proofs.Unruns.{never_not_yet, one_within, refused_before, unrun_not_yet}
 use Rattle.obq_run.proofs.run.run_files.Goals as goal
 
@@ -27,9 +27,8 @@ run_source-requires-clause-within g c =
     let paths = paths_of c.args.sites.now in
     let items = c.in-Ok.sources.items in
     let bytes = c.index.result.now.bytes.items in
-    let many : length items ≡ length c.args.sites.now = as_many holds 1048576 c.args.sites.now items c.in-Ok.ensures.held in
-    let single : length items ≡ 1 = omega (arith, many, c.requires.some, c.if-len-gt1.false, c.len.ensures) in
-    let one : contents items ≡ bytes ∷ [] = only_one (λ s. s.bytes.items) items c.index.result.now single c.index.ensures in
+    let few : length items ≤ 1 = omega (arith, c.if-len-gt1.false, c.len.ensures) in
+    let one : contents items ≡ bytes ∷ [] = one_source holds 1048576 c.args.sites.now items c.index.result.now c.in-Ok.ensures.held c.requires.some few c.index.ensures in
     let held : AreHeld holds 1048576 paths (bytes ∷ []) = subst (AreHeld holds 1048576 paths) one c.in-Ok.ensures.held in
     subst (λ (s : List ℕ). length s ≤ 1048576) (sym c.deref.ensures.value) (one_within holds paths bytes held)
 
@@ -39,9 +38,8 @@ run_source-requires-clause-accepted g c =
     let paths = paths_of c.args.sites.now in
     let items = c.in-Ok.sources.items in
     let bytes = c.index.result.now.bytes.items in
-    let many : length items ≡ length c.args.sites.now = as_many holds 1048576 c.args.sites.now items c.in-Ok.ensures.held in
-    let single : length items ≡ 1 = omega (arith, many, c.requires.some, c.if-len-gt1.false, c.len.ensures) in
-    let one : contents items ≡ bytes ∷ [] = only_one (λ s. s.bytes.items) items c.index.result.now single c.index.ensures in
+    let few : length items ≤ 1 = omega (arith, c.if-len-gt1.false, c.len.ensures) in
+    let one : contents items ≡ bytes ∷ [] = one_source holds 1048576 c.args.sites.now items c.index.result.now c.in-Ok.ensures.held c.requires.some few c.index.ensures in
     let is : contents items ≡ c.deref.result.now ∷ [] = one ∙ ap (λ s. s ∷ []) (sym c.deref.ensures.value) in
     subst (λ ss. (trees : List Block) × AreAccepted ss trees) is c.in-Ok.ensures.accepted
 
@@ -51,9 +49,8 @@ returns-in-Ok-run_source-clause-ran g c =
     let paths = paths_of c.args.sites.now in
     let items = c.in-Ok.sources.items in
     let bytes = c.index.result.now.bytes.items in
-    let many : length items ≡ length c.args.sites.now = as_many holds 1048576 c.args.sites.now items c.in-Ok.ensures.held in
-    let single : length items ≡ 1 = omega (arith, many, c.requires.some, c.if-len-gt1.false, c.len.ensures) in
-    let one : contents items ≡ bytes ∷ [] = only_one (λ s. s.bytes.items) items c.index.result.now single c.index.ensures in
+    let few : length items ≤ 1 = omega (arith, c.if-len-gt1.false, c.len.ensures) in
+    let one : contents items ≡ bytes ∷ [] = one_source holds 1048576 c.args.sites.now items c.index.result.now c.in-Ok.ensures.held c.requires.some few c.index.ensures in
     let is : contents items ≡ c.deref.result.now ∷ [] = one ∙ ap (λ s. s ∷ []) (sym c.deref.ensures.value) in
     let held : AreHeld holds 1048576 paths (c.deref.result.now ∷ []) = subst (AreHeld holds 1048576 paths) is c.in-Ok.ensures.held in
     record { source = c.deref.result.now; held = held; form = c.in-Ok-run_source.ensures.form; end = c.in-Ok-run_source.ensures.ran }
@@ -64,9 +61,8 @@ returns-clause-not_yet g c =
     let paths = paths_of c.args.sites.now in
     let items = c.in-Ok.sources.items in
     let bytes = c.index.result.now.bytes.items in
-    let many : length items ≡ length c.args.sites.now = as_many holds 1048576 c.args.sites.now items c.in-Ok.ensures.held in
-    let single : length items ≡ 1 = omega (arith, many, c.requires.some, c.if-len-gt1.false, c.len.ensures) in
-    let one : contents items ≡ bytes ∷ [] = only_one (λ s. s.bytes.items) items c.index.result.now single c.index.ensures in
+    let few : length items ≤ 1 = omega (arith, c.if-len-gt1.false, c.len.ensures) in
+    let one : contents items ≡ bytes ∷ [] = one_source holds 1048576 c.args.sites.now items c.index.result.now c.in-Ok.ensures.held c.requires.some few c.index.ensures in
     let is : contents items ≡ c.deref.result.now ∷ [] = one ∙ ap (λ s. s ∷ []) (sym c.deref.ensures.value) in
     let held : AreHeld holds 1048576 paths (c.deref.result.now ∷ []) = subst (AreHeld holds 1048576 paths) is c.in-Ok.ensures.held in
     let trees = c.in-Ok.ensures.accepted.0 in
