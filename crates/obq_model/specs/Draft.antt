@@ -187,15 +187,3 @@ abbrev mutual
   pub draft_fields : Outside → List Bytes → FieldTrees → Draft
   draft_fields o locals NoFields = Done
   draft_fields o locals (AField x body place fs) = Both (draft_field o locals body) (draft_fields o locals fs)
-
--- a `let rec`
-abbrev pub draft_group : Outside → List Bytes → RecBindTrees → Draft
-draft_group o locals bs = Group (slots_of o locals (captured_by_group o locals bs)) (draft_members (inside o (member_names bs) (captured_by_group o locals bs)) bs) Done
-
--- a procedure
-abbrev pub draft_closure : Outside → List Bytes → ProcedureTree → Draft
-draft_closure o locals p = Closure (slots_of o locals (captured_by o locals p)) (count_params p) (draft_body (inside o [] (captured_by o locals p)) p) Done
-
--- a method
-abbrev pub draft_method : Outside → List Bytes → ProcedureTree → Draft
-draft_method o locals p = Method (slots_of o locals (captured_by o locals p)) (count_params p) (draft_body (inside o [] (captured_by o locals p)) p) Done

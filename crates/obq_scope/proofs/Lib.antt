@@ -1,4 +1,5 @@
+pub mod Coding
 pub mod Counted
-pub mod Placed
-pub mod PlaceUpdates
+pub mod Covered
+pub mod Passed
 pub mod Standing

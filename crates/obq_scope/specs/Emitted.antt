@@ -3,10 +3,7 @@ use Rattle.std.specs.Prelude.{List, [], length, ℕ, ◌++◌, ◌∷◌}
 use Rattle.obq_base.specs.declared.code.Node.{Node}
 use Rattle.obq_base.specs.declared.code.Node.TheVariants as n
 use Rattle.obq_base.specs.declared.code.CodeNo.{CodeNo}
-use Rattle.obq_model.specs.Draft.{Draft, Done, Plain, Both, Closure, Method, Group, Members, NoMembers, AMember, captured_by, draft_body}
-use Rattle.obq_model.specs.Scopes.{Outside, inside}
-use Rattle.obq_model.specs.Terms.{Bytes}
-use Rattle.obq_base.specs.Tree.{ProcedureTree}
+use Rattle.obq_model.specs.Draft.{Draft, Done, Plain, Both, Closure, Method, Group, Members, NoMembers, AMember}
 use Rattle.obq_scope.specs.declared.output.Output.{Output}
 
 -- one more node
@@ -47,7 +44,3 @@ abbrev mutual
   member_numbers source captures NoMembers out = []
   member_numbers source captures (AMember params body members) out =
       next_number source (emitted source body (opened out)) ∷ member_numbers source captures members (closed captures params out.nodes (emitted source body (opened out)))
-
--- the codes inside a procedure's body, and its nodes
-abbrev pub body_output : Outside → List Bytes → ProcedureTree → Output → Output
-body_output o locals p out = emitted o.source (draft_body (inside o [] (captured_by o locals p)) p) (opened out)

@@ -1,6 +1,5 @@
+pub mod Coded
 pub mod Emitted
 pub mod Heads
-pub mod Indexed
-pub mod PlaceAt
 pub mod Refused
 pub mod Seen

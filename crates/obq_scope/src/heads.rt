@@ -6,7 +6,6 @@ ghost use Rattle.obq_model.specs.Draft.{call_node, called_row};
 ghost use Rattle.obq_scope.specs.Heads.{expr_head, item_head, suffix_head, suffix_nodes, with_head};
 ghost use Rattle.obq_scope.specs.Seen.{seen};
 
-use crate::binders::Binders;
 use crate::counts::{
     arms_in, binds_in, names_in, operators_in, suffixes_behind, suffixes_in, values_in,
 };
@@ -14,6 +13,7 @@ use crate::output::Output;
 use crate::outside::Outside;
 use crate::slots::{find_row, find_slot};
 use obq_base::{Expr, Item, NoMemory, Node, Suffix};
+use obq_names::Binders;
 use std::alloc::Global;
 
 /// Pushes the node that an item begins with, where it has one.

@@ -1,15 +1,13 @@
 //! The resolver: from the tree of a source to its code, or to its first unbound name.
 #![tactic(auto)]
 
-mod binders;
-mod captures;
-mod collect;
+mod ahead;
 mod counts;
 mod emit;
+mod emitter;
 mod heads;
 mod output;
 mod outside;
-mod places;
 mod refused;
 mod resolver;
 mod slots;

@@ -1,6 +1,6 @@
 //! What a code knows besides its own binders.
 
-use crate::binders::Binders;
+use obq_names::Binders;
 
 /// The source of a code, the names of its `let rec`, and the names that it captures.
 #[derive(Drop)]

@@ -4,16 +4,17 @@ ghost use Rattle.std.specs.Prelude.{◌≡◌, ◌≤◌, [], All, Contains, IfE
 ghost use Rattle.obq_base.specs.View.{block_tree};
 ghost use Rattle.obq_model.specs.Occurrences.{IsFirstUnbound, is_predefined, unbound};
 ghost use Rattle.obq_model.specs.Resolved.{Resolves};
+ghost use Rattle.obq_names.specs.Captures.{captures_block};
 ghost use Rattle.obq_scope.specs.Refused.{IfUnbound};
 
-use crate::binders::Binders;
-use crate::collect::collect_block;
 use crate::emit::emit_body;
+use crate::emitter::Emitter;
 use crate::output::Output;
 use crate::outside::Outside;
 use crate::refused::ScopeRefused;
 use crate::slots::find_builtin;
 use obq_base::{Block, Name, NoMemory, Occurrence, SourceCode};
+use obq_names::{Binders, Names, find_names};
 use sqlite_items::Items;
 use std::alloc::Global;
 
@@ -50,25 +51,32 @@ fn find_first(found: &[Occurrence]) -> Option<&Occurrence>
     found.iter().min_by_key(|o| o.place)
 }
 
-/// The first unbound name of a source's block, and its place.
-fn find_unbound(alloc: Global, block: &Block) -> Result<Option<(Name, u32)>, NoMemory>
+/// The first by place of the occurrences that are unbound.
+fn find_unbound(alloc: Global, free: &[Occurrence]) -> Result<Option<Occurrence>, NoMemory>
     ensures { IfOk result (λ first. MatchOption first
-        (unbound (block_tree block.now) ≡ [])
-        (λ p. IsFirstUnbound (block_tree block.now) p.0 p.1)) }
+        (filter (λ o. not (is_predefined o)) free.now ≡ [])
+        (λ o. Contains (filter (λ u. not (is_predefined u)) free.now) o × All (λ u. o.place ≤ u.place) (filter (λ u. not (is_predefined u)) free.now))) }
 {
-    let mut bound = Binders::new(alloc);
-    let mut found = Items::new(alloc);
-    collect_block(alloc, &mut bound, &mut found, block)?;
-    let kept = keep_unbound(alloc, found.as_slice())?;
+    let kept = keep_unbound(alloc, free)?;
     match find_first(kept.as_slice()) {
         None => Ok(None),
-        Some(first) => Ok(Some((first.name.copy(alloc)?, first.place))),
+        Some(first) => Ok(Some(Occurrence {
+            name: first.name.copy(alloc)?,
+            place: first.place,
+            called: first.called,
+        })),
     }
 }
 
-/// The code of a block without an unbound name.
-fn make_code(alloc: Global, source: u16, block: &Block) -> Result<SourceCode, NoMemory>
-    requires { unbound (block_tree block.now) ≡ [] }
+/// The code of a block without an unbound name, whose procedures capture these names.
+fn make_code(
+    alloc: Global,
+    source: u16,
+    block: &Block,
+    captures: Items<Items<Name>>,
+) -> Result<SourceCode, NoMemory>
+    requires bound { unbound (block_tree block.now) ≡ [] }
+    requires captured { captures ≡ captures_block [] (block_tree block.now) }
     ensures { IfOk result (λ made. Resolves source (block_tree block.now) made) }
 {
     let outside = Outside {
@@ -76,9 +84,12 @@ fn make_code(alloc: Global, source: u16, block: &Block) -> Result<SourceCode, No
         members: Binders::new(alloc),
         captured: Binders::new(alloc),
     };
-    let mut out = Output::new(alloc);
-    let main = emit_body(alloc, &outside, &mut out, &[], block)?;
-    let Output { codes, nodes: _ } = out;
+    let mut emitter = Emitter::new(alloc, captures);
+    let main = emit_body(alloc, &outside, &mut emitter, &[], block)?;
+    let Emitter {
+        output: Output { codes, nodes: _ },
+        ahead: _,
+    } = emitter;
     Ok(SourceCode {
         source,
         main,
@@ -91,12 +102,9 @@ pub fn resolve(alloc: Global, source: u16, block: &Block) -> Result<SourceCode, 
     ensures code { IfOk result (λ made. Resolves source (block_tree block.now) made) }
     ensures refused { IfErr result (λ why. IfUnbound why (IsFirstUnbound (block_tree block.now))) }
 {
-    match find_unbound(alloc, block) {
-        Err(_) => Err(ScopeRefused::NoMemory),
-        Ok(Some((name, place))) => Err(ScopeRefused::Unbound { name, place }),
-        Ok(None) => match make_code(alloc, source, block) {
-            Err(_) => Err(ScopeRefused::NoMemory),
-            Ok(made) => Ok(made),
-        },
+    let Names { free, captures } = find_names(alloc, block)?;
+    match find_unbound(alloc, free.as_slice())? {
+        None => Ok(make_code(alloc, source, block, captures)?),
+        Some(Occurrence { name, place, .. }) => Err(ScopeRefused::Unbound { name, place }),
     }
 }

@@ -1,15 +1,15 @@
 //! Where names are found, and what a procedure captures.
 
-ghost use Rattle.std.specs.Prelude.{◌≡◌, [], IfOk};
+ghost use Rattle.std.specs.Prelude.{◌≡◌, IfOk, filter};
 ghost use Rattle.obq_base.specs.View.{expr_tree, suffix_trees};
 ghost use Rattle.obq_model.specs.Draft.{called_row, row_of_called};
 ghost use Rattle.obq_model.specs.Occurrences.{builtin_row};
-ghost use Rattle.obq_model.specs.Scopes.{captured_of, is_covered, slot_of, slots_of};
+ghost use Rattle.obq_model.specs.Scopes.{is_covered, slot_of, slots_of};
 ghost use Rattle.obq_scope.specs.Seen.{seen};
 
-use crate::binders::Binders;
 use crate::outside::Outside;
-use obq_base::{Expr, Name, NoMemory, Occurrence, Slot, Suffix};
+use obq_base::{Expr, Name, NoMemory, Slot, Suffix};
+use obq_names::Binders;
 use obq_tables::{builtin_rows, find};
 use sqlite_items::Items;
 use std::alloc::Global;
@@ -47,22 +47,22 @@ pub fn has_binder(outside: &Outside, locals: &Binders, name: &Name) -> bool
     locals.contains(name) || outside.members.contains(name) || outside.captured.contains(name)
 }
 
-/// The names that a procedure with these free occurrences captures.
+/// Those of these names that a binder covers.
 pub fn find_captured(
     alloc: Global,
     outside: &Outside,
     locals: &Binders,
-    found: &[Occurrence],
+    names: &[Name],
 ) -> Result<Binders, NoMemory>
-    ensures { IfOk result (λ names. names ≡ captured_of (seen outside.now) locals.now found.now) }
+    ensures { IfOk result (λ covered. covered ≡ filter (is_covered (seen outside.now) locals.now) names.now) }
 {
-    let mut names = Binders::new(alloc);
-    for occurrence in found {
-        if has_binder(outside, locals, &occurrence.name) && !names.contains(&occurrence.name) {
-            names.push(occurrence.name.copy(alloc)?)?;
+    let mut covered = Binders::new(alloc);
+    for name in names {
+        if has_binder(outside, locals, name) {
+            covered.push(name.copy(alloc)?)?;
         }
     }
-    Ok(names)
+    Ok(covered)
 }
 
 /// The slots of these names.

@@ -1,0 +1,6 @@
+pub mod Less
+pub mod Placed
+pub mod PlaceUpdates
+pub mod Unions
+pub mod Uses
+pub mod Walks

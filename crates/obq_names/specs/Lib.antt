@@ -1,0 +1,5 @@
+pub mod Captures
+pub mod Indexed
+pub mod PlaceAt
+pub mod Union
+pub mod Walked
