@@ -1,7 +1,7 @@
 #!/bin/sh
-# Times `check` over sources of 256 KiB and 1 MiB of five shapes: expressions in 200 parentheses, some 10,000 and 40,000
-# items, a chain of as many operators, an array of as many items, and as many items that each use the name of an earlier
-# one.
+# Times `check` over sources of 256 KiB and 1 MiB of seven shapes: expressions in 200 parentheses, some 10,000 and 40,000
+# items, a chain of as many operators, an array of as many items, as many items that each use the name of an earlier one,
+# and one name that is used some 130,000 and 520,000 times in one procedure, and in the innermost of 195.
 #
 #   COMMAND="./obliq check" bench/check.sh
 #
@@ -14,7 +14,8 @@ runs=${RUNS:-5}
 folder=$(mktemp -d)
 trap 'rm -rf "$folder"' EXIT
 
-# make_source SHAPE BYTES FILE: as many pieces of some 26 bytes as fit (of 402 for parentheses), filled up with spaces
+# make_source SHAPE BYTES FILE: as many pieces of some 26 bytes as fit (of 402 for parentheses, of 2 in procedures), filled
+# up with spaces
 make_source() {
     awk -v shape="$1" -v size="$2" 'BEGIN {
         name = sprintf("name_%018d", 0)
@@ -22,6 +23,9 @@ make_source() {
         if (shape == "chain") opening = "let " name " = 1;\n" name
         if (shape == "names") opening = "let n0000000 = 0;\n "
         closing = shape == "array" ? "]" : ""
+        depth = shape == "one-proc" ? 1 : shape == "procs" ? 195 : 0
+        if (depth > 0) opening = "let a = 1;\n"
+        for (level = 0; level < depth; level++) { opening = opening "proc(x) "; closing = closing " end" }
         nest = "1"
         for (level = 0; level < 200; level++) nest = "(" nest ")"
         printf "%s", opening
@@ -32,6 +36,7 @@ make_source() {
             if (shape == "chain") text = " +\n " name
             if (shape == "array") text = sprintf(",\n %023d", k)
             if (shape == "names") text = sprintf("let n%07d = n%07d;\n ", k + 1, int(k / 2))
+            if (depth > 0) text = "a;"
             if (so_far + length(text) > size) break
             printf "%s", text
             so_far += length(text)
@@ -49,7 +54,7 @@ read_source() {
 }
 
 time_nothing
-for shape in nesting items chain array names; do
+for shape in nesting items chain array names one-proc procs; do
     make_source "$shape" 262144 "$folder/small"
     make_source "$shape" 1048576 "$folder/large"
     small=$(best_time "$folder/small")

@@ -113,6 +113,8 @@ let x = 1; proc() proc() x end end | proc(local 0) { proc(captured 0) { use capt
 let a = 1; let b = 2; proc(c) proc(d) b; a; c; d; b end end | proc(local 1, local 0) { proc(captured 0, captured 1, local 0) { use captured 0 use captured 1 use captured 2 use local 0 use captured 0 } }
 let k = 1; let rec f = proc(n) g(n); k end, g = proc(n) f(n) end; f(1); g(2) | rec(local 0) { use member 1 use local 0 use captured 0 } { use member 0 use local 0 } use local 1 use local 2
 let rec f = proc() proc() f() end end | rec() { proc(member 0) { use captured 0 } }
+let a = 1; let b = 2; proc() proc() a end; b; proc() b; a end end | proc(local 0, local 1) { proc(captured 0) { use captured 0 } use captured 1 proc(captured 1, captured 0) { use captured 0 use captured 1 } }
+let a = 1; proc(p) let rec f = proc() proc() a; f() end; p end, g = proc() f() end; g end | proc(local 0) { rec(captured 0, local 0) { proc(captured 0, member 0) { use captured 0 use captured 1 } use captured 1 } { use member 0 } use local 2 }
 let rec f = proc(f) f end | rec() { use local 0 }
 proc(x, y, x) x; y end | proc() { use local 2 use local 1 }
 let x = 1, x = x; x | use local 0 use local 1
