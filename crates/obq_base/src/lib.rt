@@ -6,6 +6,7 @@ mod acts;
 mod bytes;
 mod code;
 mod faults;
+pub mod limits;
 mod memory;
 mod occurrences;
 mod places;
