@@ -35,18 +35,3 @@ blank_length (remark c) = comment_length c
 open_length : {x r : List ℕ} → IsOpen x r → length r ≤ length x
 open_length (inside h) = inside_length h
 open_length (opened h k) = let m = inside_length h in let n = open_length k in omega arith
-
--- a fault's place isn't before the piece
-pub fault_length : {k : LexKind} {x z : List ℕ} → IsFault k x z → length z ≤ length x
-fault_length (high h) = omega arith
-fault_length (high_in_text g s h) = let n = content_length g in omega arith
-fault_length (high_in_comment g h) = let n = open_length g in omega arith
-fault_length (real s h) = omega arith
-fault_length (int_range s h g) = omega arith
-fault_length (open_line g s) = omega arith
-fault_length (open_end g s) = omega arith
-fault_length (long_text g s) = omega arith
-fault_length (bad_escape g s h) = let n = content_length g in omega arith
-fault_length (open_comment g) = omega arith
-fault_length (stray_in_text g s h i j k l) = let n = content_length g in omega arith
-fault_length (stray h i j k) = omega arith

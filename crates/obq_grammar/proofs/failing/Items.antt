@@ -21,12 +21,12 @@ use Rattle.obq_grammar.proofs.Firsts.{first_suffixed}
 use Rattle.obq_grammar.proofs.Goods.{good_field_body, good_expr}
 use Rattle.obq_grammar.proofs.Unique.{unique_suffixed}
 use Rattle.obq_grammar.proofs.Local.{local_suffixed}
-use Rattle.obq_sequence.specs.Parts.{then_, IsChain, IsRest}
-use Rattle.obq_sequence.proofs.Sequences.{also}
+use Rattle.obq_grammar.specs.Parts.{then_, IsChain, IsRest}
+use Rattle.obq_grammar.proofs.failing.Sequences.{also}
 use Rattle.obq_grammar.proofs.Chains.{unwind, tail_ends, name_field, name_item, assigned}
-use Rattle.obq_sequence.proofs.Levels.{rest_before, rest_expr_join, good_rest, chain_expr, rest_of_expr}
-use Rattle.obq_sequence.proofs.Targets.{Ended, selected, indexed, bare_name, local_ended, chain_of, target_of, assigned_field, assigned_item, not_assigned_to, field_set, item_set, field_before, item_before, ended_field, ended_item, ended_of, no_suffixes, last_selection, last_index, Assigned}
-use Rattle.obq_sequence.proofs.Stops.{headed}
+use Rattle.obq_grammar.proofs.failing.Levels.{rest_before, rest_expr_join, good_rest, chain_expr, rest_of_expr}
+use Rattle.obq_grammar.proofs.failing.Targets.{Ended, selected, indexed, bare_name, local_ended, chain_of, target_of, assigned_field, assigned_item, not_assigned_to, field_set, item_set, field_before, item_before, ended_field, ended_item, ended_of, no_suffixes, last_selection, last_index, Assigned}
+use Rattle.obq_grammar.proofs.failing.Stops.{headed}
 use Rattle.obq_base.specs.declared.trees.Item.TheVariants as i
 use Rattle.obq_base.specs.declared.trees.Expr.TheVariants as e
 use Rattle.obq_base.specs.declared.trees.Suffix.TheVariants as s

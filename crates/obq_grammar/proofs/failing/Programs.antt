@@ -11,10 +11,6 @@ use Rattle.obq_model.specs.Syntax.{IsEnded, IsFirstFault}
 
 -- the productions
 
--- the block of a program fails
-pub block_fault : {x z : List Token} → Fails IsBlock EndsBlock x z → IsEnded x → IsFirstFault x (length x - length z)
-block_fault {x = x} {z = z} f h = first_fault x z (whole_near f) h
-
 -- the block ends where no program does
 pub program_fault : {a : Block} {x z : List Token} → IsBlock a x z → EndsBlock (next z) → (EndsProgram (next z) → ⊥) → IsEnded x → IsFirstFault x (length x - length z)
 program_fault {x = x} {z = z} p h n e = first_fault x z (whole_stop p h n) e

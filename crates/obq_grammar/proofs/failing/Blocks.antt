@@ -16,9 +16,9 @@ use Rattle.obq_grammar.proofs.Theory.{Leads, step, move, upto}
 use Rattle.obq_grammar.proofs.Sets.{item_not_block}
 use Rattle.obq_grammar.proofs.Firsts.{first_item}
 use Rattle.obq_grammar.proofs.Goods.{good_block, good_item, good_expr, good_arm, good_guard}
-use Rattle.obq_sequence.specs.Parts.{IsWord, the_word, Then, then_}
-use Rattle.obq_sequence.proofs.Sequences.{Behind, anything, word_behind, then_behind, first, second, production, opened, good_word, word, other_word}
-use Rattle.obq_sequence.proofs.Beginnings.{some_block, more_behind, elsifs_behind, guards_behind}
+use Rattle.obq_grammar.specs.Parts.{IsWord, the_word, Then, then_}
+use Rattle.obq_grammar.proofs.failing.Sequences.{Behind, anything, word_behind, then_behind, first, second, production, opened, good_word, word, other_word}
+use Rattle.obq_grammar.proofs.failing.Beginnings.{some_block, more_behind, elsifs_behind, guards_behind}
 
 -- what may stand behind a part
 

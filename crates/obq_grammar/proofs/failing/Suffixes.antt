@@ -18,9 +18,9 @@ use Rattle.obq_grammar.proofs.Firsts.{first_suffix}
 use Rattle.obq_grammar.proofs.Goods.{good_expr, good_call, good_prim}
 use Rattle.obq_grammar.proofs.Unique.{unique_suffixed}
 use Rattle.obq_grammar.proofs.Local.{local_suffixed}
-use Rattle.obq_sequence.specs.Parts.{IsWord, the_word, IsName, the_name, Then, then_, IsChain, IsDottedBody, dotted_body}
-use Rattle.obq_sequence.proofs.Sequences.{Behind, anything, word_behind, then_behind, first, second, production, opened, nothing, good_word, good_name, word, named, also, other_word, other_name, renamed}
-use Rattle.obq_sequence.proofs.Beginnings.{some_suffixes, some_dotted}
+use Rattle.obq_grammar.specs.Parts.{IsWord, the_word, IsName, the_name, Then, then_, IsChain, IsDottedBody, dotted_body}
+use Rattle.obq_grammar.proofs.failing.Sequences.{Behind, anything, word_behind, then_behind, first, second, production, opened, nothing, good_word, good_name, word, named, also, other_word, other_name, renamed}
+use Rattle.obq_grammar.proofs.failing.Beginnings.{some_suffixes, some_dotted}
 use Rattle.obq_base.specs.declared.trees.Suffix.TheVariants as s
 
 -- the productions
@@ -182,9 +182,3 @@ chain_at_2 p1 f = chain_fails (second good_prim (anything some_suffixes) p1 tt f
 
 same_pair : {A B : Type 0} (c d : A × B) → c.0 ≡ d.0 → c.1 ≡ d.1 → c ≡ d
 same_pair {A = A} {B = B} c d e f = ap (λ (a : A). (a, c.1)) e ∙ ap (λ (b : B). (d.0, b)) f
-
-pub good_chain : Good IsChain EndsSuffixed
-good_chain = record {
-  unique = λ a b x r s l h m i. let u = unique_suffixed l h m i in (same_pair a b u.0 u.1, u.2);
-  local = λ a x r l v h. let w = local_suffixed l v (λ g. no_open (next v) (suffixed_dotted (next v) h)) in ((w.0, w.1), w.2, w.3, w.4);
-}

@@ -244,9 +244,6 @@ pub data HasEnd : ℕ → List Suffix → Type 0 where
   any_index : {ss : List Suffix} (ts : List Suffix) (v : Expr) (p : ℕ) → ss ≡ ts ++ s.Index v p ∷ [] → HasEnd 2 ss
   any_call : {ss : List Suffix} → HasEnd 3 ss
 
-pub ended_bare : {h : Expr} {x r : List Token} → IsSuffixed h [] x r → Ended 0 x r
-ended_bare (chain p no_suffix) = bare p
-
 pub ended_field : {h : Expr} {x r : List Token} (ss : List Suffix) (n : List ℕ) (p : ℕ) → IsSuffixed h (ss ++ s.Select n p ∷ []) x r → Ended 1 x r
 ended_field ss n p c = let m = field_before ss n p c in selected m.1 m.2
 

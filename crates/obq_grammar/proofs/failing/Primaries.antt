@@ -14,9 +14,9 @@ use Rattle.obq_grammar.specs.Fails.{Fails}
 use Rattle.obq_grammar.specs.Follow.{No, is_word, Anything, EndsExpr, EndsArgs, EndsBlock, EndsElsifs, BeginsName}
 use Rattle.obq_grammar.proofs.Theory.{move, upto}
 use Rattle.obq_grammar.proofs.Goods.{good_block, good_expr, good_args, good_arm, good_elsifs}
-use Rattle.obq_sequence.specs.Parts.{IsWord, the_word, IsName, the_name, Then, then_}
-use Rattle.obq_sequence.proofs.Sequences.{Behind, anything, word_behind, then_behind, first, second, opened, good_word, good_name, word, named, also, other_word, other_name}
-use Rattle.obq_sequence.proofs.Beginnings.{some_expr, some_args, some_block, elsifs_behind, else_behind}
+use Rattle.obq_grammar.specs.Parts.{IsWord, the_word, IsName, the_name, Then, then_}
+use Rattle.obq_grammar.proofs.failing.Sequences.{Behind, anything, word_behind, then_behind, first, second, opened, good_word, good_name, word, named, also, other_word, other_name}
+use Rattle.obq_grammar.proofs.failing.Beginnings.{some_expr, some_args, some_block, elsifs_behind, else_behind}
 use Rattle.obq_base.specs.declared.trees.Expr.TheVariants as e
 
 -- what may stand behind a part

@@ -8,7 +8,7 @@ use Rattle.obq_grammar.specs.Fails.{Cut, here, there, Fails}
 use Rattle.obq_grammar.specs.Follow.{No, Yes, is_word, Anything, BeginsName}
 use Rattle.obq_grammar.proofs.Theory.{Good, Begins, Both, behind, after, past, stop}
 use Rattle.obq_grammar.proofs.Sets.{no_yes}
-use Rattle.obq_sequence.specs.Parts.{IsWord, the_word, IsName, the_name, Then, then_}
+use Rattle.obq_grammar.specs.Parts.{IsWord, the_word, IsName, the_name, Then, then_}
 
 -- What begins with an M that ends before a token of T may stand behind what ends before a token of U; and there is an M before any tokens.
 pub record Behind {B : Type 0} (U : TokenKind → Type 0) (M : B → List Token → List Token → Type 0) (T : TokenKind → Type 0) : Type 0 where
@@ -23,12 +23,6 @@ word_before U u the_word = u
 
 pub word_behind : {U T : TokenKind → Type 0} {kind : TokenKind} → U kind → Behind U (IsWord kind) T
 word_behind {U = U} {kind = kind} u = record { before = λ b x r m h. word_before U u m; some = λ r. (tt, token kind 0 ∷ r, the_word) }
-
-name_before : (U : TokenKind → Type 0) {n : List ℕ} {x r : List Token} → ((m : List ℕ) → U (k.Name m)) → IsName n x r → U (next x)
-name_before U {n = n} u the_name = u n
-
-pub name_behind : {U T : TokenKind → Type 0} → ((m : List ℕ) → U (k.Name m)) → Behind U IsName T
-name_behind {U = U} u = record { before = λ b x r m h. name_before U u m; some = λ r. ([], token (k.Name []) 0 ∷ r, the_name) }
 
 then_before : {A B : Type 0} {K : A → List Token → List Token → Type 0} {M : B → List Token → List Token → Type 0} {U V T : TokenKind → Type 0} {t : Unit {0}} {x r : List Token} → Behind U K V → Behind V M T → Then K M t x r → T (next r) → U (next x)
 then_before f s (then_ p q) h = f.before _ _ _ p (s.before _ _ _ q h)

@@ -1,3 +1,4 @@
+-- Where each production of the grammar fails.
 pub mod Sequences
 pub mod Beginnings
 pub mod Bindings

@@ -17,11 +17,11 @@ use Rattle.obq_grammar.proofs.Firsts.{before_links}
 use Rattle.obq_grammar.proofs.Goods.{good_level, good_links}
 use Rattle.obq_grammar.proofs.Unique.{unique_suffixed, unique_links}
 use Rattle.obq_grammar.proofs.Local.{local_links}
-use Rattle.obq_sequence.specs.Parts.{IsOperator, the_operator, Then, then_, IsChain, IsRest, top, rise}
-use Rattle.obq_sequence.proofs.Sequences.{Behind, anything, then_behind, first, second, production, renamed}
+use Rattle.obq_grammar.specs.Parts.{IsOperator, the_operator, Then, then_, IsChain, IsRest, top, rise}
+use Rattle.obq_grammar.proofs.failing.Sequences.{Behind, anything, then_behind, first, second, production, renamed}
 use Rattle.obq_grammar.proofs.Local.{Keeps, kept}
-use Rattle.obq_sequence.proofs.Beginnings.{some_level, links_behind}
-use Rattle.obq_sequence.proofs.Suffixes.{good_chain}
+use Rattle.obq_grammar.proofs.failing.Beginnings.{some_level, links_behind}
+use Rattle.obq_grammar.proofs.failing.Suffixes.{good_chain}
 
 -- the productions
 
@@ -133,21 +133,8 @@ pub lowered : {l : ℕ} {a : Expr} {x y r : List Token} → IsLevel l a x y → 
 lowered (operand {h = h} {ss = ss} p) q = then_ {a = (h, ss)} p q
 lowered (level p ls) q = let k : _ < 5 = omega (arith, rest_small q) in lowered p (rise k ls q)
 
-rest_expr_split : {a : Expr} {y s : List Token} → IsExpr a y s → (b : Unit {0}) × (Then IsChain (IsRest 0)) b y s
-rest_expr_split (expr p) = (_, lowered p top)
-
 pub rest_expr_join : {b : Unit {0}} {y s : List Token} → (Then IsChain (IsRest 0)) b y s → (a : Expr) × IsExpr a y s
 rest_expr_join (then_ p q) = let w = raised (operand p) q in (w.0, expr w.1)
-
-chain_rest_fails : {S : TokenKind → Type 0} {x z : List Token} → Fails (Then IsChain (IsRest 0)) S x z → Fails IsExpr S x z
-chain_rest_fails = renamed (λ a y s l. rest_expr_split l) (λ b y s m. rest_expr_join m)
-
--- an expression by its first chain and the rest
-pub expr_chain : {x z : List Token} → Fails IsChain EndsSuffixed x z → Fails IsExpr EndsExpr x z
-expr_chain f = let k : 0 ≤ 5 = omega arith in chain_rest_fails (first (rest_behind k) f)
-
-pub expr_rest : {h : Expr} {ss : List Suffix} {x x1 z : List Token} → IsSuffixed h ss x x1 → EndsSuffixed (next x1) → Fails (IsRest 0) EndsExpr x1 z → Fails IsExpr EndsExpr x z
-expr_rest {h = h} {ss = ss} p e f = let k : 0 ≤ 5 = omega arith in chain_rest_fails (second {a = (h, ss)} good_chain (rest_behind k) p e f)
 
 links_of_level : {l m : ℕ} {ls : List Link} {y r : List Token} → l ≡ m → IsLinks m ls y r → IsLinks l ls y r
 links_of_level {ls = ls} {y = y} {r = r} e p = subst (λ (j : ℕ). IsLinks j ls y r) (sym e) p

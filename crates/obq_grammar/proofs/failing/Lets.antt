@@ -19,9 +19,9 @@ use Rattle.obq_grammar.proofs.Theory.{fewer, narrow, move, upto}
 use Rattle.obq_grammar.proofs.Sets.{item_args, item_names}
 use Rattle.obq_grammar.proofs.Firsts.{first_suffixed, first_expr, first_binds}
 use Rattle.obq_grammar.proofs.Goods.{good_block, good_binds, good_rec_binds, good_guard, good_guards}
-use Rattle.obq_sequence.specs.Parts.{IsWord, the_word, Then, then_, IsLetBody, let_body, IsTryBody, try_body}
-use Rattle.obq_sequence.proofs.Sequences.{Behind, word_behind, then_behind, first, second, production, opened, word, other_word, renamed}
-use Rattle.obq_sequence.proofs.Beginnings.{guards_behind, else_behind_guards, try_behind, begins_no}
+use Rattle.obq_grammar.specs.Parts.{IsWord, the_word, Then, then_, IsLetBody, let_body, IsTryBody, try_body}
+use Rattle.obq_grammar.proofs.failing.Sequences.{Behind, word_behind, then_behind, first, second, production, opened, word, other_word, renamed}
+use Rattle.obq_grammar.proofs.failing.Beginnings.{guards_behind, else_behind_guards, try_behind, begins_no}
 use Rattle.obq_base.specs.declared.trees.Item.TheVariants as i
 use Rattle.obq_base.specs.declared.trees.Expr.TheVariants as e
 

@@ -1,5 +1,4 @@
-//! Where the productions of the grammar fail. No code runs here; a function is a law, its contract.
-#![tactic(auto)]
+//! Where the productions of the grammar fail.
 
 ghost use Rattle.std.specs.Prelude.{◌≡◌, ◌-◌, [], ◌∷◌, ◌++◌, List, ℕ, length};
 ghost use Rattle.obq_base.specs.declared.tokens.Token.{Token};

@@ -14,9 +14,9 @@ use Rattle.obq_grammar.specs.Fails.{Fails}
 use Rattle.obq_grammar.specs.Follow.{No, is_word, Anything, EndsBlock, EndsItem, BeginsExpr}
 use Rattle.obq_grammar.proofs.Theory.{Leads, step, move}
 use Rattle.obq_grammar.proofs.Firsts.{first_prim}
-use Rattle.obq_sequence.proofs.Sequences.{production, opened, nothing, word}
-use Rattle.obq_sequence.proofs.Blocks.{items_at_1, items_at_2}
-use Rattle.obq_sequence.proofs.Beginnings.{some_prim, some_more, some_else, some_proc}
+use Rattle.obq_grammar.proofs.failing.Sequences.{production, opened, nothing, word}
+use Rattle.obq_grammar.proofs.failing.Blocks.{items_at_1, items_at_2}
+use Rattle.obq_grammar.proofs.failing.Beginnings.{some_prim, some_more, some_else, some_proc}
 
 -- the productions
 
@@ -42,20 +42,6 @@ proc_none n (proc p q) = n
 
 pub proc_at_1 : {x : List Token} → No (is_word kw_proc (next x)) → Fails IsProc Anything x x
 proc_at_1 = nothing (λ kind. No (is_word kw_proc kind)) (λ a y s n l h. proc_none n l) some_proc
-
-meth_none : {a : Proc} {y s : List Token} → No (is_word kw_meth (next y)) → IsMeth a y s → ⊥
-meth_none n (meth p q) = n
-
-pub meth_at_1 : {x : List Token} → No (is_word kw_meth (next x)) → Fails IsMeth Anything x x
-meth_at_1 = nothing (λ kind. No (is_word kw_meth kind)) (λ a y s n l h. meth_none n l) (λ r. (procedure ([] ∷ []) (block [] 0) 0, token kw_meth 0 ∷ token sym_open 0 ∷ token (k.Name []) 0 ∷ token sym_close 0 ∷ token kw_end 0 ∷ r, meth (names no_name) empty))
-
--- more of a block
-pub more_stop : {x : List Token} → (EndsBlock (next x) → ⊥) → No (is_word sym_semicolon (next x)) → Fails IsMore EndsBlock x x
-more_stop c d = nothing (λ kind. (EndsBlock kind → ⊥) × No (is_word sym_semicolon kind)) (λ a y s n l h. more_none n l h) some_more (c, d) where
-  more_none : {a : List Item} {y s : List Token} → (EndsBlock (next y) → ⊥) × No (is_word sym_semicolon (next y)) → IsMore a y s → EndsBlock (next s) → ⊥
-  more_none n no_more h = n.0 h
-  more_none n semicolon h = n.1
-  more_none n (more p q) h = n.1
 
 more_split : {a : List Item} {p : ℕ} {y s : List Token} → IsMore a (token sym_semicolon p ∷ y) s → EndsBlock (next s) → (b : Block) × IsBlock b y s
 more_split no_more h = absurd h

@@ -19,8 +19,8 @@ use Rattle.obq_model.specs.Grammar.{IsBlock, IsMore, IsMoreBinds, IsMoreRecBinds
 use Rattle.obq_grammar.specs.Follow.{No, is_word, EndsLevel, EndsExpr, EndsArgs, EndsBlock, EndsItem, EndsElsifs, EndsGuards}
 use Rattle.obq_grammar.proofs.Sets.{not_yes, is_word_same}
 use Rattle.obq_grammar.proofs.Firsts.{before_more, before_binds, before_args, before_fields, before_links, before_elsifs, before_guards, first_else, else_guards, first_try}
-use Rattle.obq_sequence.specs.Parts.{IsTryBody, try_body, IsDottedBody, dotted_body}
-use Rattle.obq_sequence.proofs.Sequences.{Behind}
+use Rattle.obq_grammar.specs.Parts.{IsTryBody, try_body, IsDottedBody, dotted_body}
+use Rattle.obq_grammar.proofs.failing.Sequences.{Behind}
 use Rattle.obq_base.specs.declared.trees.Expr.TheVariants as e
 use Rattle.obq_base.specs.declared.trees.Suffix.TheVariants as s
 

@@ -16,9 +16,9 @@ use Rattle.obq_grammar.specs.Follow.{No, is_word, Anything, EndsExpr, EndsArgs, 
 use Rattle.obq_grammar.proofs.Theory.{fewer, narrow, Leads, step, move, upto}
 use Rattle.obq_grammar.proofs.Firsts.{first_expr, first_args}
 use Rattle.obq_grammar.proofs.Goods.{good_meth, good_expr, good_args, good_fields, good_field}
-use Rattle.obq_sequence.specs.Parts.{IsWord, the_word, IsName, the_name, Then, then_}
-use Rattle.obq_sequence.proofs.Sequences.{Behind, anything, word_behind, then_behind, first, second, production, opened, good_word, good_name, word, named, also, other_word, other_name}
-use Rattle.obq_sequence.proofs.Beginnings.{some_expr, some_field_body, more_args_behind, more_fields_behind, begins_no}
+use Rattle.obq_grammar.specs.Parts.{IsWord, the_word, IsName, the_name, Then, then_}
+use Rattle.obq_grammar.proofs.failing.Sequences.{Behind, anything, word_behind, then_behind, first, second, production, opened, good_word, good_name, word, named, also, other_word, other_name}
+use Rattle.obq_grammar.proofs.failing.Beginnings.{some_expr, some_field_body, more_args_behind, more_fields_behind, begins_no}
 use Rattle.obq_base.specs.declared.trees.FieldExpr.TheVariants as b
 
 -- what may stand behind a part
@@ -49,27 +49,8 @@ args_at_1 f = args_fails (first more_args_behind f)
 pub args_at_2 : {v : Expr} {x x1 z : List Token} → IsExpr v x x1 → EndsExpr (next x1) → Fails IsMoreArgs EndsArgs x1 z → Fails IsArgs EndsArgs x z
 args_at_2 p1 h1 f = args_fails (second good_expr more_args_behind p1 h1 f)
 
-one_arg_split : {a : List Expr} {p : ℕ} {y s : List Token} → IsMoreArgs a (token sym_comma p ∷ y) s → EndsArgs (next s) → (b : Unit {0}) × (Then IsExpr IsMoreArgs) b y s
-one_arg_split no_arg h = absurd h
-one_arg_split (one_arg p2 p3) h = (_, then_ p2 p3)
-
-one_arg_join : {b : Unit {0}} {y s : List Token} (p : ℕ) → (Then IsExpr IsMoreArgs) b y s → (a : List Expr) × IsMoreArgs a (token sym_comma p ∷ y) s
-one_arg_join p (then_ p2 p3) = (_, one_arg p2 p3)
-
-one_arg_fails : {p : ℕ} {x y z : List Token} → x ≡ token sym_comma p ∷ y → Fails (Then IsExpr IsMoreArgs) EndsArgs y z → Fails IsMoreArgs EndsArgs x z
-one_arg_fails e = opened (λ p a y s l h. one_arg_split l h) (λ p b y s m. one_arg_join p m) (word e)
-
-pub one_arg_at_2 : {p : ℕ} {x x1 z : List Token} → x ≡ token sym_comma p ∷ x1 → Fails IsExpr EndsExpr x1 z → Fails IsMoreArgs EndsArgs x z
-one_arg_at_2 e1 f = one_arg_fails e1 (first more_args_behind f)
-
-pub one_arg_at_3 : {v : Expr} {p : ℕ} {x x1 x2 z : List Token} → x ≡ token sym_comma p ∷ x1 → IsExpr v x1 x2 → EndsExpr (next x2) → Fails IsMoreArgs EndsArgs x2 z → Fails IsMoreArgs EndsArgs x z
-one_arg_at_3 e1 p2 h2 f = one_arg_fails e1 (second good_expr more_args_behind p2 h2 f)
-
 pub one_arg_of : {v : Expr} {vs : List Expr} {p : ℕ} {x x1 x2 r : List Token} → x ≡ token sym_comma p ∷ x1 → IsExpr v x1 x2 → IsMoreArgs vs x2 r → IsMoreArgs (v ∷ vs) x r
 one_arg_of e1 p2 p3 = move IsMoreArgs _ _ _ _ e1 (one_arg p2 p3)
-
-pub one_arg_step : {vs : List Expr} {v : Expr} {p : ℕ} {w x x1 x2 : List Token} → Leads IsMoreArgs EndsArgs vs w x → x ≡ token sym_comma p ∷ x1 → IsExpr v x1 x2 → EndsExpr (next x2) → Leads IsMoreArgs EndsArgs (vs ++ v ∷ []) w x2
-one_arg_step {v = v} l e1 p2 h2 = step v l (λ bs r m. one_arg_of e1 p2 m) (λ w f. one_arg_at_3 e1 p2 h2 f)
 
 arguments_split : {a : List Expr} {y s : List Token} → No (is_word sym_close (next y)) → IsCall a y s → Anything (next s) → (b : Unit {0}) × (Then IsArgs (IsWord sym_close)) b y s
 arguments_split n no_argument h = absurd n
@@ -207,27 +188,8 @@ fields_at_1 f = fields_fails (first more_fields_behind f)
 pub fields_at_2 : {f : Field} {x x1 z : List Token} → IsField f x x1 → EndsExpr (next x1) → Fails IsMoreFields EndsArgs x1 z → Fails IsFields EndsArgs x z
 fields_at_2 p1 h1 f = fields_fails (second good_field more_fields_behind p1 h1 f)
 
-one_field_split : {a : List Field} {p : ℕ} {y s : List Token} → IsMoreFields a (token sym_comma p ∷ y) s → EndsArgs (next s) → (b : Unit {0}) × (Then IsField IsMoreFields) b y s
-one_field_split no_further_field h = absurd h
-one_field_split (one_field p2 p3) h = (_, then_ p2 p3)
-
-one_field_join : {b : Unit {0}} {y s : List Token} (p : ℕ) → (Then IsField IsMoreFields) b y s → (a : List Field) × IsMoreFields a (token sym_comma p ∷ y) s
-one_field_join p (then_ p2 p3) = (_, one_field p2 p3)
-
-one_field_fails : {p : ℕ} {x y z : List Token} → x ≡ token sym_comma p ∷ y → Fails (Then IsField IsMoreFields) EndsArgs y z → Fails IsMoreFields EndsArgs x z
-one_field_fails e = opened (λ p a y s l h. one_field_split l h) (λ p b y s m. one_field_join p m) (word e)
-
-pub one_field_at_2 : {p : ℕ} {x x1 z : List Token} → x ≡ token sym_comma p ∷ x1 → Fails IsField EndsExpr x1 z → Fails IsMoreFields EndsArgs x z
-one_field_at_2 e1 f = one_field_fails e1 (first more_fields_behind f)
-
-pub one_field_at_3 : {f : Field} {p : ℕ} {x x1 x2 z : List Token} → x ≡ token sym_comma p ∷ x1 → IsField f x1 x2 → EndsExpr (next x2) → Fails IsMoreFields EndsArgs x2 z → Fails IsMoreFields EndsArgs x z
-one_field_at_3 e1 p2 h2 f = one_field_fails e1 (second good_field more_fields_behind p2 h2 f)
-
 pub one_field_of : {f : Field} {fs : List Field} {p : ℕ} {x x1 x2 r : List Token} → x ≡ token sym_comma p ∷ x1 → IsField f x1 x2 → IsMoreFields fs x2 r → IsMoreFields (f ∷ fs) x r
 one_field_of e1 p2 p3 = move IsMoreFields _ _ _ _ e1 (one_field p2 p3)
-
-pub one_field_step : {fs : List Field} {f : Field} {p : ℕ} {w x x1 x2 : List Token} → Leads IsMoreFields EndsArgs fs w x → x ≡ token sym_comma p ∷ x1 → IsField f x1 x2 → EndsExpr (next x2) → Leads IsMoreFields EndsArgs (fs ++ f ∷ []) w x2
-one_field_step {f = f} l e1 p2 h2 = step f l (λ bs r m. one_field_of e1 p2 m) (λ w f. one_field_at_3 e1 p2 h2 f)
 
 flags_fields_split : {a : List Field} {p : ℕ} {y s : List Token} → IsBothFlags a (token sym_comma p ∷ y) s → Anything (next s) → (b : Unit {0}) × (Then IsFields (IsWord sym_close_brace)) b y s
 flags_fields_split (flags_fields p2) h = (_, then_ p2 the_word)

@@ -16,9 +16,9 @@ use Rattle.obq_grammar.specs.Follow.{No, is_word, Anything, EndsArgs, BeginsName
 use Rattle.obq_grammar.proofs.Theory.{move, upto}
 use Rattle.obq_grammar.proofs.Firsts.{first_fields}
 use Rattle.obq_grammar.proofs.Goods.{good_fields}
-use Rattle.obq_sequence.specs.Parts.{IsWord, the_word, Then, then_, IsFlagsAndFields, IsFlagAndFields}
-use Rattle.obq_sequence.proofs.Sequences.{anything, word_behind, first, second, production, opened, opened_by, nothing, good_word, word, also, other_word}
-use Rattle.obq_sequence.proofs.Beginnings.{some_both_flags, begins_no}
+use Rattle.obq_grammar.specs.Parts.{IsWord, the_word, Then, then_, IsFlagsAndFields, IsFlagAndFields}
+use Rattle.obq_grammar.proofs.failing.Sequences.{anything, word_behind, first, second, production, opened, opened_by, nothing, good_word, word, also, other_word}
+use Rattle.obq_grammar.proofs.failing.Beginnings.{some_both_flags, begins_no}
 use Rattle.obq_base.specs.declared.trees.Expr.TheVariants as e
 
 -- the productions

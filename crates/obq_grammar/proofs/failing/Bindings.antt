@@ -17,9 +17,9 @@ use Rattle.obq_grammar.specs.Follow.{No, is_word, Anything, EndsExpr, EndsNames,
 use Rattle.obq_grammar.proofs.Theory.{Leads, step, move, upto}
 use Rattle.obq_grammar.proofs.Firsts.{first_names}
 use Rattle.obq_grammar.proofs.Goods.{good_block, good_bind, good_rec_bind, good_parameters, good_names}
-use Rattle.obq_sequence.specs.Parts.{IsWord, the_word, IsName, the_name, Then, then_}
-use Rattle.obq_sequence.proofs.Sequences.{Behind, anything, word_behind, then_behind, first, second, production, opened, good_word, good_name, word, named, also, other_word, other_name}
-use Rattle.obq_sequence.proofs.Beginnings.{some_expr, some_more_rec_binds, some_more_names, some_block, some_proc, some_names, some_parameters, more_binds_behind, begins_no}
+use Rattle.obq_grammar.specs.Parts.{IsWord, the_word, IsName, the_name, Then, then_}
+use Rattle.obq_grammar.proofs.failing.Sequences.{Behind, anything, word_behind, then_behind, first, second, production, opened, good_word, good_name, word, named, also, other_word, other_name}
+use Rattle.obq_grammar.proofs.failing.Beginnings.{some_expr, some_more_rec_binds, some_more_names, some_block, some_proc, some_names, some_parameters, more_binds_behind, begins_no}
 
 -- what may stand behind a part
 
@@ -61,27 +61,8 @@ names_at_2 e1 f = names_fails (second good_name (anything some_more_names) (name
 pub names_of : {n : List ℕ} {ns : List (List ℕ)} {p : ℕ} {x x1 r : List Token} → x ≡ token (k.Name n) p ∷ x1 → IsMoreNames ns x1 r → IsNames (n ∷ ns) x r
 names_of e1 p2 = move IsNames _ _ _ _ e1 (names p2)
 
-one_name_split : {a : List (List ℕ)} {p : ℕ} {y s : List Token} → IsMoreNames a (token sym_comma p ∷ y) s → EndsNames (next s) → (b : Unit {0}) × (Then IsName IsMoreNames) b y s
-one_name_split no_name h = absurd h
-one_name_split (one_name p3) h = (_, then_ the_name p3)
-
-one_name_join : {b : Unit {0}} {y s : List Token} (p : ℕ) → (Then IsName IsMoreNames) b y s → (a : List (List ℕ)) × IsMoreNames a (token sym_comma p ∷ y) s
-one_name_join p (then_ the_name p3) = (_, one_name p3)
-
-one_name_fails : {p : ℕ} {x y z : List Token} → x ≡ token sym_comma p ∷ y → Fails (Then IsName IsMoreNames) EndsNames y z → Fails IsMoreNames EndsNames x z
-one_name_fails e = opened (λ p a y s l h. one_name_split l h) (λ p b y s m. one_name_join p m) (word e)
-
-pub one_name_at_2 : {p : ℕ} {x x1 : List Token} → x ≡ token sym_comma p ∷ x1 → (BeginsName (next x1) → ⊥) → Fails IsMoreNames EndsNames x x1
-one_name_at_2 e1 f = one_name_fails e1 (first (anything some_more_names) (other_name f))
-
-pub one_name_at_3 : {n : List ℕ} {p q : ℕ} {x x1 x2 z : List Token} → x ≡ token sym_comma p ∷ x1 → x1 ≡ token (k.Name n) q ∷ x2 → Fails IsMoreNames EndsNames x2 z → Fails IsMoreNames EndsNames x z
-one_name_at_3 e1 e2 f = one_name_fails e1 (second good_name (anything some_more_names) (named e2) tt f)
-
 pub one_name_of : {n : List ℕ} {ns : List (List ℕ)} {p q : ℕ} {x x1 x2 r : List Token} → x ≡ token sym_comma p ∷ x1 → x1 ≡ token (k.Name n) q ∷ x2 → IsMoreNames ns x2 r → IsMoreNames (n ∷ ns) x r
 one_name_of e1 e2 p3 = move IsMoreNames _ _ _ _ (also e1 e2) (one_name p3)
-
-pub one_name_step : {ns : List (List ℕ)} {n : List ℕ} {p q : ℕ} {w x x1 x2 : List Token} → Leads IsMoreNames EndsNames ns w x → x ≡ token sym_comma p ∷ x1 → x1 ≡ token (k.Name n) q ∷ x2 → Leads IsMoreNames EndsNames (ns ++ n ∷ []) w x2
-one_name_step {n = n} l e1 e2 = step n l (λ bs r m. one_name_of e1 e2 m) (λ w f. one_name_at_3 e1 e2 f)
 
 parameters_split : {a : List (List ℕ)} {y s : List Token} → No (is_word sym_close (next y)) → IsParameters a y s → Anything (next s) → (b : Unit {0}) × (Then IsNames (IsWord sym_close)) b y s
 parameters_split n no_parameter h = absurd n
@@ -189,27 +170,8 @@ binds_at_1 f = binds_fails (first more_binds_behind f)
 pub binds_at_2 : {b : Bind} {x x1 z : List Token} → IsBind b x x1 → EndsExpr (next x1) → Fails IsMoreBinds EndsArgs x1 z → Fails IsBinds EndsArgs x z
 binds_at_2 p1 h1 f = binds_fails (second good_bind more_binds_behind p1 h1 f)
 
-one_bind_split : {a : List Bind} {p : ℕ} {y s : List Token} → IsMoreBinds a (token sym_comma p ∷ y) s → EndsArgs (next s) → (b : Unit {0}) × (Then IsBind IsMoreBinds) b y s
-one_bind_split no_bind h = absurd h
-one_bind_split (one_bind p2 p3) h = (_, then_ p2 p3)
-
-one_bind_join : {b : Unit {0}} {y s : List Token} (p : ℕ) → (Then IsBind IsMoreBinds) b y s → (a : List Bind) × IsMoreBinds a (token sym_comma p ∷ y) s
-one_bind_join p (then_ p2 p3) = (_, one_bind p2 p3)
-
-one_bind_fails : {p : ℕ} {x y z : List Token} → x ≡ token sym_comma p ∷ y → Fails (Then IsBind IsMoreBinds) EndsArgs y z → Fails IsMoreBinds EndsArgs x z
-one_bind_fails e = opened (λ p a y s l h. one_bind_split l h) (λ p b y s m. one_bind_join p m) (word e)
-
-pub one_bind_at_2 : {p : ℕ} {x x1 z : List Token} → x ≡ token sym_comma p ∷ x1 → Fails IsBind EndsExpr x1 z → Fails IsMoreBinds EndsArgs x z
-one_bind_at_2 e1 f = one_bind_fails e1 (first more_binds_behind f)
-
-pub one_bind_at_3 : {b : Bind} {p : ℕ} {x x1 x2 z : List Token} → x ≡ token sym_comma p ∷ x1 → IsBind b x1 x2 → EndsExpr (next x2) → Fails IsMoreBinds EndsArgs x2 z → Fails IsMoreBinds EndsArgs x z
-one_bind_at_3 e1 p2 h2 f = one_bind_fails e1 (second good_bind more_binds_behind p2 h2 f)
-
 pub one_bind_of : {b : Bind} {bs : List Bind} {p : ℕ} {x x1 x2 r : List Token} → x ≡ token sym_comma p ∷ x1 → IsBind b x1 x2 → IsMoreBinds bs x2 r → IsMoreBinds (b ∷ bs) x r
 one_bind_of e1 p2 p3 = move IsMoreBinds _ _ _ _ e1 (one_bind p2 p3)
-
-pub one_bind_step : {bs : List Bind} {b : Bind} {p : ℕ} {w x x1 x2 : List Token} → Leads IsMoreBinds EndsArgs bs w x → x ≡ token sym_comma p ∷ x1 → IsBind b x1 x2 → EndsExpr (next x2) → Leads IsMoreBinds EndsArgs (bs ++ b ∷ []) w x2
-one_bind_step {b = b} l e1 p2 h2 = step b l (λ bs r m. one_bind_of e1 p2 m) (λ w f. one_bind_at_3 e1 p2 h2 f)
 
 rec_bind_of_split : {a : RecBind} {y s : List Token} → IsRecBind a y s → Anything (next s) → (b : Unit {0}) × (Then IsName (Then (IsWord sym_equals) IsProc)) b y s
 rec_bind_of_split (rec_bind_of p3) h = (_, then_ the_name (then_ the_word p3))
@@ -247,24 +209,5 @@ rec_binds_at_1 f = rec_binds_fails (first (anything some_more_rec_binds) f)
 pub rec_binds_at_2 : {b : RecBind} {x x1 z : List Token} → IsRecBind b x x1 → Fails IsMoreRecBinds EndsNames x1 z → Fails IsRecBinds EndsNames x z
 rec_binds_at_2 p1 f = rec_binds_fails (second good_rec_bind (anything some_more_rec_binds) p1 tt f)
 
-one_rec_bind_split : {a : List RecBind} {p : ℕ} {y s : List Token} → IsMoreRecBinds a (token sym_comma p ∷ y) s → EndsNames (next s) → (b : Unit {0}) × (Then IsRecBind IsMoreRecBinds) b y s
-one_rec_bind_split no_rec_bind h = absurd h
-one_rec_bind_split (one_rec_bind p2 p3) h = (_, then_ p2 p3)
-
-one_rec_bind_join : {b : Unit {0}} {y s : List Token} (p : ℕ) → (Then IsRecBind IsMoreRecBinds) b y s → (a : List RecBind) × IsMoreRecBinds a (token sym_comma p ∷ y) s
-one_rec_bind_join p (then_ p2 p3) = (_, one_rec_bind p2 p3)
-
-one_rec_bind_fails : {p : ℕ} {x y z : List Token} → x ≡ token sym_comma p ∷ y → Fails (Then IsRecBind IsMoreRecBinds) EndsNames y z → Fails IsMoreRecBinds EndsNames x z
-one_rec_bind_fails e = opened (λ p a y s l h. one_rec_bind_split l h) (λ p b y s m. one_rec_bind_join p m) (word e)
-
-pub one_rec_bind_at_2 : {p : ℕ} {x x1 z : List Token} → x ≡ token sym_comma p ∷ x1 → Fails IsRecBind Anything x1 z → Fails IsMoreRecBinds EndsNames x z
-one_rec_bind_at_2 e1 f = one_rec_bind_fails e1 (first (anything some_more_rec_binds) f)
-
-pub one_rec_bind_at_3 : {b : RecBind} {p : ℕ} {x x1 x2 z : List Token} → x ≡ token sym_comma p ∷ x1 → IsRecBind b x1 x2 → Fails IsMoreRecBinds EndsNames x2 z → Fails IsMoreRecBinds EndsNames x z
-one_rec_bind_at_3 e1 p2 f = one_rec_bind_fails e1 (second good_rec_bind (anything some_more_rec_binds) p2 tt f)
-
 pub one_rec_bind_of : {b : RecBind} {bs : List RecBind} {p : ℕ} {x x1 x2 r : List Token} → x ≡ token sym_comma p ∷ x1 → IsRecBind b x1 x2 → IsMoreRecBinds bs x2 r → IsMoreRecBinds (b ∷ bs) x r
 one_rec_bind_of e1 p2 p3 = move IsMoreRecBinds _ _ _ _ e1 (one_rec_bind p2 p3)
-
-pub one_rec_bind_step : {bs : List RecBind} {b : RecBind} {p : ℕ} {w x x1 x2 : List Token} → Leads IsMoreRecBinds EndsNames bs w x → x ≡ token sym_comma p ∷ x1 → IsRecBind b x1 x2 → Leads IsMoreRecBinds EndsNames (bs ++ b ∷ []) w x2
-one_rec_bind_step {b = b} l e1 p2 = step b l (λ bs r m. one_rec_bind_of e1 p2 m) (λ w f. one_rec_bind_at_3 e1 p2 f)
