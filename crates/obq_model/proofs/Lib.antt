@@ -1,7 +1,16 @@
 pub mod Comments
 pub mod Contents
 pub mod Faults
+pub mod Found
+pub mod NaturalCells
+pub mod NaturalOpening
+pub mod Naturality
+pub mod Plug
+pub mod PutCommute
+pub mod PutRead
+pub mod PutTwice
 pub mod Readings
 pub mod Spellings
+pub mod Substitution
 pub mod Uniqueness
 pub mod Widths

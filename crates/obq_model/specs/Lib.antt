@@ -7,10 +7,12 @@ pub mod Draft
 pub mod Effect
 pub mod Exceptions
 pub mod Forms
+pub mod Frames
 pub mod Grammar
 pub mod Journal
 pub mod Located
 pub mod Maps
+pub mod Naturality
 pub mod Nodes
 pub mod Occurrences
 pub mod Opening
@@ -26,6 +28,7 @@ pub mod Sources
 pub mod Spans
 pub mod Step
 pub mod Store
+pub mod Substitution
 pub mod Syntax
 pub mod Terms
 pub mod Tokens

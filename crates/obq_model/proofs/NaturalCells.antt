@@ -12,8 +12,8 @@ use Rattle.obq_model.specs.Store.{Cell, ObjectCell, ArrayCell, VariableCell, Wri
 use Rattle.obq_model.specs.Step.{Self, Itself, Entered, Offered, Operation, Get, CallMethod, Leave, Set, Copy, RedirectTo, GetItem, GetSize, EachSize, EachItem, SetItem, ReadVariable, SetVariable, Write, LineUp, GiveUp, Signal, Broadcast, RunEngine, body_with, testing}
 use Rattle.obq_model.specs.Maps.{map_value, map_body, map_fields, map_kind, map_term, map_cell, map_self, map_operation}
 use Rattle.obq_model.specs.Cells.{Ends, is_object, is_clear, is_refused, mode_for, owner_for, at_target, get_row, invoke_row, set_at_target, is_alias, set_here_row, set_row, copy_row, redirect_row, on_object_row, object_row, owned_cell, item_row, items_of, item_at, set_item_row, set_variable_row, write_row, line_row, value_of, cell_row, is_free}
-use Rattle.obq_laws.specs.Laws.{Tells, SameEnds, NaturalAgain, NaturalImport, NaturalNew}
-use Rattle.obq_laws.proofs.Naturality.{if_same, map_put_all, map_enter, map_values_before, map_body_with}
+use Rattle.obq_model.specs.Naturality.{Tells, SameEnds, NaturalAgain, NaturalImport, NaturalNew}
+use Rattle.obq_model.proofs.Naturality.{if_same, map_put_all, map_enter, map_values_before, map_body_with}
 
 -- ---- fields
 map_field : {R S : Type 0} (f : R → S) (x : Bytes) (fs : Fields R) → option_map (map_body f) (field x fs) ≡ field x (map_fields f fs)

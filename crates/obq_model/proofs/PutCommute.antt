@@ -4,7 +4,7 @@ use Rattle.std.proofs.lemmas.Slice.Eq.{bytes_eq-Decides}
 use Rattle.std.proofs.Common.{ap, sym, ◌∙◌}
 use Rattle.obq_model.specs.Terms.{Bytes, Value, Term, Const, Name, Under, Form, Parts, End, Part}
 use Rattle.obq_model.specs.Put.{among, occurrence, put, put_parts}
-use Rattle.obq_laws.proofs.PutTwice.{occurrence_stays}
+use Rattle.obq_model.proofs.PutTwice.{occurrence_stays}
 
 two_names : (x y z : Bytes) → (x ≡ y → ⊥) → bytes_eq x z ≡ true → bytes_eq y z ≡ true → ⊥
 two_names x y z ne b c = ne ((bytes_eq-Decides x z).0 b ∙ sym ((bytes_eq-Decides y z).0 c))

@@ -6,8 +6,8 @@ use Rattle.obq_model.specs.Terms.{Bytes, Object, Variable, Value, Member, Loc, T
 use Rattle.obq_model.specs.Put.{among, occurrence, put, put_parts, put_all}
 use Rattle.obq_model.specs.Depth.{deepest, deepest_of, depth_in}
 use Rattle.obq_model.specs.Reading.{Env, hide, name_or, read, read_parts, occurs, occurs_in, with_all, with_members, depth_of}
-use Rattle.obq_laws.specs.Substitution.{EnterRead, MembersRead}
-use Rattle.obq_laws.proofs.PutRead.{put_read}
+use Rattle.obq_model.specs.Substitution.{EnterRead, MembersRead}
+use Rattle.obq_model.proofs.PutRead.{put_read}
 
 put_all_read : {R : Type 0} → (vs : List (Value R)) (xs : List Bytes) (env : Env R) (t : Term R) → put_all vs xs (read env t) ≡ read (with_all vs xs env) t
 put_all_read [] xs env t = refl

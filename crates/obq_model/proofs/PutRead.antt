@@ -5,7 +5,7 @@ use Rattle.std.proofs.Common.{subst, ap, sym, ◌∙◌}
 use Rattle.obq_model.specs.Terms.{Bytes, Value, Term, Const, Name, Under, Form, Parts, End, Part}
 use Rattle.obq_model.specs.Put.{among, occurrence, put, put_parts}
 use Rattle.obq_model.specs.Reading.{Env, hide, name_or, read, read_parts, or_some, also}
-use Rattle.obq_laws.proofs.PutTwice.{occurrence_stays}
+use Rattle.obq_model.proofs.PutTwice.{occurrence_stays}
 
 fun_eq : {A B : Type 0} (f g : A → B) → ((x : A) → f x ≡ g x) → f ≡ g
 fun_eq f g h = λ i x. h x i
