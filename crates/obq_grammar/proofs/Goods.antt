@@ -3,12 +3,12 @@ use Rattle.std.proofs.Common.{ℕ, suc, refl}
 use Rattle.obq_base.specs.declared.tokens.TokenKind.{TokenKind}
 use Rattle.obq_base.specs.declared.trees.Block.{Block}
 use Rattle.obq_model.specs.Nodes.{next}
-use Rattle.obq_model.specs.Grammar.{IsNoOpen, IsBlock, IsMore, IsItem, IsLet, IsBinds, IsMoreBinds, IsBind, IsRecBinds, IsMoreRecBinds, IsRecBind, IsFieldBody, IsMeth, IsProc, IsParameters, IsNames, IsMoreNames, IsExpr, IsLevel, IsLinks, IsCall, IsArgs, IsMoreArgs, IsPrim, IsArray, IsArm, IsElsifs, IsElse, IsTry, IsGuard, IsGuards, IsBothFlags, IsFields, IsMoreFields, IsField}
+use Rattle.obq_model.specs.Grammar.{IsNoOpen, IsBlock, IsItem, IsBinds, IsBind, IsRecBinds, IsRecBind, IsFieldBody, IsMeth, IsParameters, IsNames, IsExpr, IsLevel, IsLinks, IsCall, IsArgs, IsPrim, IsArray, IsArm, IsElsifs, IsTry, IsGuard, IsGuards, IsFields, IsField}
 use Rattle.obq_grammar.specs.Follow.{Anything, EndsSuffixed, EndsLevel, EndsExpr, EndsNames, EndsArgs, EndsItem, EndsBlock, EndsElsifs, EndsGuards}
 use Rattle.obq_grammar.proofs.Theory.{Good}
 use Rattle.obq_grammar.proofs.Sets.{no_open, suffixed_dotted, level_suffixed, expr_suffixed, args_expr, item_expr, block_item, elsifs_block, guards_block}
-use Rattle.obq_grammar.proofs.Unique.{unique_block, unique_more, unique_item, unique_let, unique_binds, unique_more_binds, unique_bind, unique_rec_binds, unique_more_rec_binds, unique_rec_bind, unique_field_body, unique_meth, unique_proc, unique_parameters, unique_names, unique_more_names, unique_expr, unique_level, unique_links, unique_call, unique_args, unique_more_args, unique_prim, unique_array, unique_arm, unique_elsifs, unique_else, unique_try, unique_guard, unique_guards, unique_both_flags, unique_fields, unique_more_fields, unique_field}
-use Rattle.obq_grammar.proofs.Local.{local_block, local_more, local_item, local_let, local_binds, local_more_binds, local_bind, local_rec_binds, local_more_rec_binds, local_rec_bind, local_field_body, local_meth, local_proc, local_parameters, local_names, local_more_names, local_expr, local_level, local_links, local_call, local_args, local_more_args, local_prim, local_array, local_arm, local_elsifs, local_else, local_try, local_guard, local_guards, local_both_flags, local_fields, local_more_fields, local_field}
+use Rattle.obq_grammar.proofs.Unique.{unique_block, unique_item, unique_binds, unique_bind, unique_rec_binds, unique_rec_bind, unique_field_body, unique_meth, unique_parameters, unique_names, unique_expr, unique_level, unique_links, unique_call, unique_args, unique_prim, unique_array, unique_arm, unique_elsifs, unique_try, unique_guard, unique_guards, unique_fields, unique_field}
+use Rattle.obq_grammar.proofs.Local.{local_block, local_item, local_binds, local_bind, local_rec_binds, local_rec_bind, local_field_body, local_meth, local_parameters, local_names, local_expr, local_level, local_links, local_call, local_args, local_prim, local_array, local_arm, local_elsifs, local_try, local_guard, local_guards, local_fields, local_field}
 
 -- a token that may stand behind such an N is no "("
 not_open : (kind : TokenKind) → EndsSuffixed kind → IsNoOpen kind

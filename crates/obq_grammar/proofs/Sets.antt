@@ -1,5 +1,5 @@
 -- Of kinds of tokens: what stands behind one N may stand behind another.
-use Rattle.std.proofs.Common.{◌≡◌, ℕ, zero, suc, Bool, true, false, ◌||◌, List, [], ◌∷◌, refl, sym, subst, ap, inl, inr, ◌⊎◌, eqb-true, ◌==◌}
+use Rattle.std.proofs.Common.{◌≡◌, ℕ, zero, suc, Bool, true, false, ◌||◌, List, [], ◌∷◌, refl, subst, ap, inl, inr, ◌⊎◌, eqb-true, ◌==◌}
 use Rattle.obq_base.specs.declared.tokens.TokenKind.{TokenKind}
 use Rattle.obq_base.specs.declared.tokens.TokenKind.TheVariants as k
 use Rattle.obq_base.specs.declared.trees.Operator.{Operator}

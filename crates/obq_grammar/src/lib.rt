@@ -7,9 +7,9 @@ ghost use Rattle.obq_base.specs.declared.trees.Block.{Block};
 ghost use Rattle.obq_model.specs.Grammar.{Derives};
 ghost use Rattle.obq_model.specs.Syntax.{IsFirstFault};
 
-mod failing;
+mod productions;
 
-pub use failing::{call_is_no_target, fault_behind_block, limit_fails};
+pub use productions::{call_is_no_target, fault_behind_block, limit_fails};
 
 /// No tokens derive two trees.
 pub fn one_tree()

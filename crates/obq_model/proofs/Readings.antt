@@ -1,8 +1,7 @@
 -- Readings grow at their end, and pieces have at least one byte.
 use Rattle.std.proofs.Common.{◌≡◌, ℕ, ◌<◌, ◌≤◌, List, [], ◌∷◌, ◌++◌, length, true, ap, arith, length-append}
 use Rattle.obq_base.specs.declared.tokens.Token.{Token}
-use Rattle.obq_base.specs.declared.faults.LexKind.{LexKind}
-use Rattle.obq_model.specs.Tokens.{Lexeme, Spells, word, number, minus, literal, mark, IsOpen, inside, opened, IsBlank, white, remark, IsFault, high, high_in_text, high_in_comment, real, int_range, open_line, open_end, long_text, bad_escape, open_comment, stray_in_text, stray, IsToken, IsRead, done, blank, token, kind_of, nested_by, token_at}
+use Rattle.obq_model.specs.Tokens.{Lexeme, Spells, word, number, minus, literal, mark, IsOpen, inside, opened, IsBlank, white, remark, IsToken, IsRead, done, blank, token, kind_of, nested_by, token_at}
 use Rattle.obq_model.proofs.Contents.{content_length}
 use Rattle.obq_model.proofs.Comments.{inside_length, comment_length}
 use Rattle.obq_model.proofs.Spellings.{is_key, symbol_is_key}

@@ -1,7 +1,7 @@
 -- Names, procedures and bindings. `C_at_i`: where the part i of the production C fails, what the production derives fails; the arguments are the parts before it
 -- (a word or a name by the tokens that begin with it, another part by its derivation and by the token behind it), and then how part i fails.
 -- `C_end`: behind the last part stands what may not stand behind the production. `C_of`: the production from its parts. `C_step`: one more of a list so far.
-use Rattle.std.proofs.Common.{◌≡◌, ℕ, List, [], ◌∷◌, ◌++◌}
+use Rattle.std.proofs.Common.{◌≡◌, ℕ, List, ◌∷◌}
 use Rattle.obq_base.specs.declared.tokens.Token.{Token}
 use Rattle.obq_base.specs.declared.tokens.TokenKind.TheVariants as k
 use Rattle.obq_base.specs.declared.trees.Block.{Block}
@@ -11,10 +11,10 @@ use Rattle.obq_base.specs.declared.trees.Proc.{Proc}
 use Rattle.obq_base.specs.declared.trees.Expr.{Expr}
 use Rattle.obq_model.specs.Words.{kw_end, kw_meth, kw_proc, sym_open, sym_close, sym_comma, sym_equals}
 use Rattle.obq_model.specs.Nodes.{token, next, bind, rec_bind, procedure}
-use Rattle.obq_model.specs.Grammar.{IsBlock, IsBinds, IsMoreBinds, IsBind, IsRecBinds, IsMoreRecBinds, IsRecBind, IsMeth, IsProc, IsParameters, IsNames, IsMoreNames, IsExpr, binds, no_bind, one_bind, bind_of, rec_binds, no_rec_bind, one_rec_bind, rec_bind_of, meth, proc, no_parameter, parameters, names, no_name, one_name}
+use Rattle.obq_model.specs.Grammar.{IsBlock, IsBinds, IsMoreBinds, IsBind, IsRecBinds, IsMoreRecBinds, IsRecBind, IsMeth, IsProc, IsParameters, IsNames, IsMoreNames, IsExpr, binds, one_bind, bind_of, rec_binds, one_rec_bind, rec_bind_of, meth, proc, no_parameter, parameters, names, one_name}
 use Rattle.obq_grammar.specs.Fails.{Fails}
 use Rattle.obq_grammar.specs.Follow.{No, is_word, Anything, EndsExpr, EndsNames, EndsArgs, EndsBlock, BeginsName}
-use Rattle.obq_grammar.proofs.Theory.{Leads, step, move, upto}
+use Rattle.obq_grammar.proofs.Theory.{move, upto}
 use Rattle.obq_grammar.proofs.Firsts.{first_names}
 use Rattle.obq_grammar.proofs.Goods.{good_block, good_bind, good_rec_bind, good_parameters, good_names}
 use Rattle.obq_grammar.specs.Parts.{IsWord, the_word, IsName, the_name, Then, then_}

@@ -1,7 +1,7 @@
 -- Arguments, fields and flags. `C_at_i`: where the part i of the production C fails, what the production derives fails; the arguments are the parts before it
 -- (a word or a name by the tokens that begin with it, another part by its derivation and by the token behind it), and then how part i fails.
 -- `C_end`: behind the last part stands what may not stand behind the production. `C_of`: the production from its parts. `C_step`: one more of a list so far.
-use Rattle.std.proofs.Common.{◌≡◌, ℕ, List, [], ◌∷◌, ◌++◌, subst, ap}
+use Rattle.std.proofs.Common.{◌≡◌, ℕ, List, ◌∷◌, subst, ap}
 use Rattle.obq_base.specs.declared.tokens.Token.{Token}
 use Rattle.obq_base.specs.declared.tokens.TokenKind.TheVariants as k
 use Rattle.obq_base.specs.declared.trees.Proc.{Proc}
@@ -10,10 +10,10 @@ use Rattle.obq_base.specs.declared.trees.Expr.{Expr}
 use Rattle.obq_base.specs.declared.trees.Field.{Field}
 use Rattle.obq_model.specs.Words.{kw_alias, kw_end, kw_meth, kw_of, sym_close, sym_comma, sym_arrow, sym_close_bracket, sym_close_brace}
 use Rattle.obq_model.specs.Nodes.{token, next, field}
-use Rattle.obq_model.specs.Grammar.{IsFieldBody, IsMeth, IsExpr, IsCall, IsArgs, IsMoreArgs, IsArray, IsBothFlags, IsFields, IsMoreFields, IsField, value, method, alias, meth, no_argument, arguments, args, no_arg, one_arg, no_element, elements, flags_fields, fields, no_further_field, one_field, field_of}
+use Rattle.obq_model.specs.Grammar.{IsFieldBody, IsMeth, IsExpr, IsCall, IsArgs, IsMoreArgs, IsArray, IsBothFlags, IsFields, IsMoreFields, IsField, value, method, alias, meth, no_argument, arguments, args, one_arg, no_element, elements, flags_fields, fields, one_field, field_of}
 use Rattle.obq_grammar.specs.Fails.{Fails}
 use Rattle.obq_grammar.specs.Follow.{No, is_word, Anything, EndsExpr, EndsArgs, BeginsName, BeginsExpr}
-use Rattle.obq_grammar.proofs.Theory.{fewer, narrow, Leads, step, move, upto}
+use Rattle.obq_grammar.proofs.Theory.{fewer, narrow, move, upto}
 use Rattle.obq_grammar.proofs.Firsts.{first_expr, first_args}
 use Rattle.obq_grammar.proofs.Goods.{good_meth, good_expr, good_args, good_fields, good_field}
 use Rattle.obq_grammar.specs.Parts.{IsWord, the_word, IsName, the_name, Then, then_}

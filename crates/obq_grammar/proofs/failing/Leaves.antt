@@ -1,16 +1,13 @@
 -- Productions of one token, from the token; and what stands behind a list that goes on no more.
-use Rattle.std.proofs.Common.{◌≡◌, ℕ, ℤ, suc, Bool, true, false, ◌||◌, List, [], ◌∷◌, None}
+use Rattle.std.proofs.Common.{◌≡◌, ℕ, Bool, true, false, ◌||◌, List, ◌∷◌}
 use Rattle.obq_base.specs.declared.tokens.Token.{Token}
 use Rattle.obq_base.specs.declared.tokens.TokenKind.{TokenKind}
 use Rattle.obq_base.specs.declared.tokens.TokenKind.TheVariants as k
-use Rattle.obq_model.specs.Words.{kw_elsif, kw_end, kw_except, kw_exit, kw_false, kw_ok, kw_true, sym_close, sym_semicolon, sym_close_bracket, sym_close_brace, sym_dot, sym_open_bracket, sym_open}
+use Rattle.obq_model.specs.Words.{sym_semicolon}
 use Rattle.obq_model.specs.Nodes.{token}
-use Rattle.obq_model.specs.Grammar.{flags, IsParameters, IsCall, IsPrim, IsArray, IsElse, IsObject, IsFlagged, IsBothFlags, no_parameter, no_argument, int, text, true_, false_, ok, name, exit, no_element, no_else, no_field, flag_alone, flags_alone}
-use Rattle.obq_grammar.specs.Follow.{Yes, No, is_word, among, continues, EndsLevel, EndsBlock, EndsItem, EndsElsifs, EndsGuards, EndsSuffixed}
+use Rattle.obq_model.specs.Grammar.{IsPrim, text, name}
+use Rattle.obq_grammar.specs.Follow.{Yes, No, is_word, EndsBlock, EndsItem}
 use Rattle.obq_grammar.proofs.Theory.{move}
-use Rattle.obq_grammar.proofs.Sets.{no_both}
-use Rattle.obq_grammar.specs.Follow.{operators, closers}
-use Rattle.obq_grammar.proofs.Sets.{among_each}
 use Rattle.obq_base.specs.declared.trees.Expr.TheVariants as e
 
 -- the productions

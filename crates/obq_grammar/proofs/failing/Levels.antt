@@ -21,7 +21,6 @@ use Rattle.obq_grammar.specs.Parts.{IsOperator, the_operator, Then, then_, IsCha
 use Rattle.obq_grammar.proofs.failing.Sequences.{Behind, anything, then_behind, first, second, production, renamed}
 use Rattle.obq_grammar.proofs.Local.{Keeps, kept}
 use Rattle.obq_grammar.proofs.failing.Beginnings.{some_level, links_behind}
-use Rattle.obq_grammar.proofs.failing.Suffixes.{good_chain}
 
 -- the productions
 

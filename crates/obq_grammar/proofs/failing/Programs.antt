@@ -4,9 +4,8 @@ use Rattle.obq_base.specs.declared.tokens.Token.{Token}
 use Rattle.obq_base.specs.declared.trees.Block.{Block}
 use Rattle.obq_model.specs.Nodes.{next}
 use Rattle.obq_model.specs.Grammar.{IsBlock}
-use Rattle.obq_grammar.specs.Fails.{Fails}
 use Rattle.obq_grammar.specs.Follow.{EndsBlock, EndsProgram}
-use Rattle.obq_grammar.proofs.Top.{whole_near, whole_stop, first_fault}
+use Rattle.obq_grammar.proofs.Top.{whole_stop, first_fault}
 use Rattle.obq_model.specs.Syntax.{IsEnded, IsFirstFault}
 
 -- the productions

@@ -7,16 +7,16 @@ use Rattle.obq_base.specs.declared.trees.Block.{Block}
 use Rattle.obq_base.specs.declared.trees.Item.{Item}
 use Rattle.obq_base.specs.declared.trees.Proc.{Proc}
 use Rattle.obq_base.specs.declared.trees.Expr.{Expr}
-use Rattle.obq_model.specs.Words.{kw_else, kw_end, kw_except, kw_finally, kw_proc, sym_semicolon, kw_meth, sym_open, sym_close}
-use Rattle.obq_model.specs.Nodes.{token, next, procedure, block}
-use Rattle.obq_model.specs.Grammar.{IsBlock, IsMore, IsItem, IsProc, IsPrim, IsElse, IsTry, empty, items, no_more, semicolon, more, proc_of, no_else, else_, finally, excepts, IsMeth, proc, meth, names, no_name}
+use Rattle.obq_model.specs.Words.{kw_else, kw_end, kw_except, kw_finally, kw_proc, sym_semicolon}
+use Rattle.obq_model.specs.Nodes.{token, next}
+use Rattle.obq_model.specs.Grammar.{IsBlock, IsMore, IsItem, IsProc, IsPrim, IsElse, IsTry, empty, items, no_more, semicolon, more, proc_of, no_else, else_, finally, excepts, proc}
 use Rattle.obq_grammar.specs.Fails.{Fails}
 use Rattle.obq_grammar.specs.Follow.{No, is_word, Anything, EndsBlock, EndsItem, BeginsExpr}
 use Rattle.obq_grammar.proofs.Theory.{Leads, step, move}
 use Rattle.obq_grammar.proofs.Firsts.{first_prim}
 use Rattle.obq_grammar.proofs.failing.Sequences.{production, opened, nothing, word}
 use Rattle.obq_grammar.proofs.failing.Blocks.{items_at_1, items_at_2}
-use Rattle.obq_grammar.proofs.failing.Beginnings.{some_prim, some_more, some_else, some_proc}
+use Rattle.obq_grammar.proofs.failing.Beginnings.{some_prim, some_else, some_proc}
 
 -- the productions
 

@@ -12,12 +12,10 @@ use Rattle.obq_model.specs.Nodes.{token, next}
 use Rattle.obq_model.specs.Grammar.{IsNoOpen, IsExpr, IsSuffixed, IsSuffixes, IsSuffix, IsDotted, IsCall, IsPrim, chain, no_suffix, one_suffix, apply, dotted, index, select, invoke, no_argument}
 use Rattle.obq_grammar.specs.Fails.{Cut, here, there, Fails}
 use Rattle.obq_grammar.specs.Follow.{No, is_word, Anything, EndsSuffixed, EndsExpr, BeginsName}
-use Rattle.obq_grammar.proofs.Theory.{Good, Begins, same_front, after, Leads, step, move, upto}
+use Rattle.obq_grammar.proofs.Theory.{Begins, same_front, after, Leads, step, move, upto}
 use Rattle.obq_grammar.proofs.Sets.{no_open, suffixed_dotted}
 use Rattle.obq_grammar.proofs.Firsts.{first_suffix}
 use Rattle.obq_grammar.proofs.Goods.{good_expr, good_call, good_prim}
-use Rattle.obq_grammar.proofs.Unique.{unique_suffixed}
-use Rattle.obq_grammar.proofs.Local.{local_suffixed}
 use Rattle.obq_grammar.specs.Parts.{IsWord, the_word, IsName, the_name, Then, then_, IsChain, IsDottedBody, dotted_body}
 use Rattle.obq_grammar.proofs.failing.Sequences.{Behind, anything, word_behind, then_behind, first, second, production, opened, nothing, good_word, good_name, word, named, also, other_word, other_name, renamed}
 use Rattle.obq_grammar.proofs.failing.Beginnings.{some_suffixes, some_dotted}
