@@ -10,6 +10,7 @@ pub mod Forms
 pub mod Frames
 pub mod Grammar
 pub mod Journal
+pub mod JournalText
 pub mod Located
 pub mod Maps
 pub mod Naturality
