@@ -21,6 +21,7 @@ pub mod Output
 pub mod Put
 pub mod PutTexts
 pub mod Reading
+pub mod Refusals
 pub mod Replay
 pub mod Resolved
 pub mod Scopes
