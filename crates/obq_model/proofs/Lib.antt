@@ -10,6 +10,7 @@ pub mod PutCommute
 pub mod PutRead
 pub mod PutTwice
 pub mod Readings
+pub mod Slices
 pub mod Spellings
 pub mod Substitution
 pub mod Uniqueness
