@@ -16,8 +16,9 @@ use Rattle.obq_model.specs.Opening.{opening}
 use Rattle.obq_model.specs.Replay.{after_pure, kind_same, act_same, spend, with_turns, exactly, then_act, act_turns, take_of, take_execution, take_state, take_entry, replay_from, replay}
 use Rattle.obq_model.proofs.Slices.{get_below, set_same, set_other, set_set, set_own, set_length, push_other, push_set}
 use Rattle.obq_laws.specs.Determinism.{entry_of}
-use Rattle.obq_laws.specs.Turns.{state_of, changed, with_thread, CanGo, Turn, Steps, Acts, Forks, Ends, Raises, Turns, NoTurn, TheAct, AStep, TurnByTurn, TurnTaken}
+use Rattle.obq_laws.specs.Turns.{state_of, changed, with_thread, CanGo, Turn, Steps, Acts, Forks, Ends, Raises, Turns, NoTurn, TheAct, AStep, TurnByTurn, alone, TurnTaken}
 use Rattle.obq_laws.proofs.HeldActs.{none_some}
+use Rattle.obq_laws.proofs.OwnerLaw.{eq_refl}
 use Rattle.obq_laws.proofs.Exclusion.{act_same_eq}
 use Rattle.obq_laws.proofs.Determinism.{cut_entry}
 
@@ -208,3 +209,72 @@ kept_from turns P h k k2 (e ∷ es) p r = by (take_entry turns k e) refl r (λ k
 -- what holds of an opening and is kept by each turn holds of every configuration that a journal replays to
 pub kept_by_replay : (turns : ℕ) (P : Config → Type 0) → KeptByTurns turns P → (trees : List BlockTree) → P (opening trees) → (es : List Entry) (k : Config) → replay trees turns es ≡ Some k → P k
 kept_by_replay turns P h trees p es k r = kept_from turns P h (opening trees) k es p r
+
+-- ---- from a turn to its entry
+
+one_left : (turns used : ℕ) → used < turns → nat_lt turns (used + 0 + 1) ≡ false
+one_left turns used l = grind (arith, nat_tests)
+
+one_left_step : (turns used : ℕ) → used < turns → nat_lt turns (used + 1 + 0) ≡ false
+one_left_step turns used l = grind (arith, nat_tests)
+
+kind_refl : (k : ActKind) → kind_same k k ≡ true
+kind_refl ActKind.New = refl
+kind_refl ActKind.Get = refl
+kind_refl ActKind.Call = refl
+kind_refl ActKind.Leave = refl
+kind_refl ActKind.Hop = refl
+kind_refl ActKind.Set = refl
+kind_refl ActKind.Copy = refl
+kind_refl ActKind.Redirect = refl
+kind_refl ActKind.ArrayGet = refl
+kind_refl ActKind.ArraySet = refl
+kind_refl ActKind.VarGet = refl
+kind_refl ActKind.VarSet = refl
+kind_refl ActKind.Put = refl
+kind_refl ActKind.Fork = refl
+kind_refl ActKind.Join = refl
+kind_refl ActKind.Line = refl
+kind_refl ActKind.GiveUp = refl
+kind_refl ActKind.Again = refl
+kind_refl ActKind.Signal = refl
+kind_refl ActKind.Broadcast = refl
+kind_refl ActKind.Export = refl
+kind_refl ActKind.Import = refl
+kind_refl ActKind.Engine = refl
+kind_refl ActKind.End = refl
+
+-- an act is the same as itself
+pub act_refl : (kind : ActKind) (loc : ℕ) → act_same (act kind loc) (act kind loc) ≡ true
+act_refl kind loc = rw (kind_refl kind, eq_refl loc) refl
+
+act_taken : (turns : ℕ) (k k2 : Config) (t : ℕ) (u : Term ℕ) (used : ℕ) (kind : ActKind) (loc : ℕ) → CanGo turns k t u used → effect k t ≡ Does (act kind loc) k2
+    → take_entry turns k (alone t (Some (act kind loc))) ≡ Some (with_turns t 1 k2)
+act_taken turns k k2 t u used kind loc g e =
+    ap (take_state turns k (entry_of t 0 (Some (act kind loc)))) g.is_there
+    ∙ ap (λ (b : Bool). if b then None else take_of k (entry_of t 0 (Some (act kind loc))) (Some u)) (one_left turns used g.is_left)
+    ∙ ap (then_act t (Some (act kind loc))) (stays k t used u g.is_there)
+    ∙ ap (λ x. elim (exactly (act kind loc) x) [ None ↦ None | Some k3 ↦ Some (with_turns t 1 k3) ]) e
+    ∙ ap (λ (b : Bool). elim (if b then Some k2 else None) [ None ↦ None | Some k3 ↦ Some (with_turns t 1 k3) ]) (act_refl kind loc)
+
+found_effect : (turns : ℕ) (k : Config) (t : ℕ) (u : Term ℕ) (used : ℕ) (x : Found ℕ) → CanGo turns k t u used → find same_loc 0 no_self u ≡ x → effect k t ≡ effect_of k t x
+found_effect turns k t u used x g f = ap (effect_of_state k t) g.is_there ∙ ap (effect_of k t) f
+
+pub turn_taken : TurnTaken
+turn_taken turns k _ t _ (Steps {u} {used} {v} g e) =
+    ap (take_state turns k (entry_of t 1 None)) g.is_there
+    ∙ ap (λ (b : Bool). if b then None else take_of k (entry_of t 1 None) (after_pure 1 u)) (one_left_step turns used g.is_left)
+    ∙ ap (λ (o : Option (Term ℕ)). take_of k (entry_of t 1 None) (elim o [ None ↦ None | Some w ↦ Some w ])) e
+    ∙ ap Some (turned_once k t used u (Running v) g.is_there)
+turn_taken turns k _ t _ (Acts {u} {used} {op} {fs} {kind} {loc} {st} {focus} g f p) =
+    act_taken turns k (with_execution (record k { store = st }) t (Running (plug fs focus))) t u used kind loc g (found_effect turns k t u used (Needs op fs) g f ∙ ap (after_outcome k t fs) p)
+    ∙ ap Some (turned_once (record k { store = st }) t used u (Running (plug fs focus)) g.is_there)
+turn_taken turns k _ t _ (Forks {u} {used} {op} {fs} {loc} {new} {focus} g f p) =
+    act_taken turns k (record k { threads = (with_execution k t (Running (plug fs focus))).threads ++ state_of (Running new) 0 ∷ [] }) t u used ActKind.Fork loc g (found_effect turns k t u used (Needs op fs) g f ∙ ap (after_outcome k t fs) p)
+    ∙ ap Some (turned_fork k t used u (Running (plug fs focus)) new g.is_there)
+turn_taken turns k _ t _ (Ends {u} {used} {v} g f) =
+    act_taken turns k (with_execution k t (Returned v)) t u used ActKind.End t g (found_effect turns k t u used (Done v) g f)
+    ∙ ap Some (turned_once k t used u (Returned v) g.is_there)
+turn_taken turns k _ t _ (Raises {u} {used} {r} g f) =
+    act_taken turns k (with_execution k t (end_by r)) t u used ActKind.End t g (found_effect turns k t u used (Uncaught r) g f)
+    ∙ ap Some (turned_once k t used u (end_by r) g.is_there)
