@@ -14,7 +14,8 @@ use Rattle.obq_model.specs.Config.{Execution, Running, Returned, Failed, ThreadS
 use Rattle.obq_model.specs.Effect.{Outcome, Waiting, Acting, Forking, perform, Effect, Does, Waits, Nothing, after_outcome, effect_of, effect_of_execution, effect_of_state, effect}
 use Rattle.obq_model.specs.Opening.{block_term, opening_terms, new_threads, opening}
 use Rattle.obq_model.specs.Replay.{after_pure, act_same, spend, with_turns, exactly, then_act, act_turns, take_of, take_execution, take_state, take_entry, replay_from}
-use Rattle.obq_laws.specs.Keeping.{IsNotHeld, Keeps, owner_of, IsSourceExecution, AllFit, FitExecution, IsFormedConfig, IsFormedIf, holds_now, IsOnce, is_owner, owns, execution_marks, marks_at, OwnersHold, OwnersHoldIf, OwnerLaw}
+use Rattle.obq_model.specs.OneCell.{owner_of}
+use Rattle.obq_laws.specs.Keeping.{IsNotHeld, Keeps, IsSourceExecution, AllFit, FitExecution, IsFormedConfig, IsFormedIf, holds_now, IsOnce, is_owner, owns, execution_marks, marks_at, OwnersHold, OwnersHoldIf, OwnerLaw}
 use Rattle.obq_laws.proofs.Source.{source-marks_of}
 use Rattle.obq_laws.proofs.Methods.{leaving, marks_around, AreSourceFrames, IsSourceOperation, IsGood, good_find}
 use Rattle.obq_laws.proofs.Acts.{IsGoodOutcome, FitsSelf, good_perform}

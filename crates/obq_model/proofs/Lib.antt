@@ -5,6 +5,7 @@ pub mod Found
 pub mod NaturalCells
 pub mod NaturalOpening
 pub mod Naturality
+pub mod OneCell
 pub mod Plug
 pub mod PutCommute
 pub mod PutRead

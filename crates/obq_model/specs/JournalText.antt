@@ -1,5 +1,5 @@
 -- The text of a journal, both ways: how a journal is written, and how a text is read, up to the first bad line.
-use Rattle.std.specs.Prelude.{Bool, Err, List, None, Ok, Option, Result, Some, [], bytes_eq, codes, false, if◌then◌else◌, length, nat_le, not, suc, ℕ, ◌&&◌, ◌++◌, ◌==◌, ◌∷◌, ◌≤◌}
+use Rattle.std.specs.Prelude.{Bool, Err, List, None, Ok, Option, Result, Some, [], bytes_eq, codes, false, if◌then◌else◌, nat_le, not, suc, ℕ, ◌&&◌, ◌++◌, ◌==◌, ◌∷◌, ◌≤◌}
 use Rattle.std.specs.List.{flat_map, list_all, slice_split}
 use Rattle.std.specs.Char.{is_ascii_digit}
 use Rattle.std.specs.Fmt.{decimal}

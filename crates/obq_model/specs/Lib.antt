@@ -16,6 +16,7 @@ pub mod Maps
 pub mod Naturality
 pub mod Nodes
 pub mod Occurrences
+pub mod OneCell
 pub mod Opening
 pub mod Output
 pub mod Put
