@@ -134,6 +134,62 @@ exceptions =
     codes "text_range" ∷
     codes "type" ∷ []
 
+-- the names of acts in a journal
+abbrev pub acts : List (List ℕ)
+acts =
+    codes "Again" ∷
+    codes "ArrayGet" ∷
+    codes "ArraySet" ∷
+    codes "Broadcast" ∷
+    codes "Call" ∷
+    codes "Copy" ∷
+    codes "End" ∷
+    codes "Engine" ∷
+    codes "Export" ∷
+    codes "Fork" ∷
+    codes "Get" ∷
+    codes "GiveUp" ∷
+    codes "Hop" ∷
+    codes "Import" ∷
+    codes "Join" ∷
+    codes "Leave" ∷
+    codes "Line" ∷
+    codes "New" ∷
+    codes "Put" ∷
+    codes "Redirect" ∷
+    codes "Set" ∷
+    codes "Signal" ∷
+    codes "VarGet" ∷
+    codes "VarSet" ∷ []
+
+-- the operations that a request may ask for
+abbrev pub wire_operations : List (List ℕ)
+wire_operations =
+    codes "Again" ∷
+    codes "ArrayItem" ∷
+    codes "ArraySet" ∷
+    codes "ArraySize" ∷
+    codes "Broadcast" ∷
+    codes "Call" ∷
+    codes "Copy" ∷
+    codes "Engine" ∷
+    codes "Export" ∷
+    codes "Get" ∷
+    codes "GiveUp" ∷
+    codes "Import" ∷
+    codes "Join" ∷
+    codes "Line" ∷
+    codes "Put" ∷
+    codes "Redirect" ∷
+    codes "Set" ∷
+    codes "Signal" ∷
+    codes "VarGet" ∷
+    codes "VarSet" ∷ []
+
+-- the number of each in a frame
+abbrev pub wire_numbers : List ℕ
+wire_numbers = 15 ∷ 6 ∷ 8 ∷ 7 ∷ 17 ∷ 2 ∷ 4 ∷ 20 ∷ 18 ∷ 1 ∷ 14 ∷ 19 ∷ 12 ∷ 13 ∷ 11 ∷ 5 ∷ 3 ∷ 16 ∷ 9 ∷ 10 ∷ []
+
 -- what opens a part of a source that a closer ends
 abbrev pub openers : List (List ℕ)
 openers =

@@ -7,7 +7,8 @@ mod tables;
 
 pub use nesting::Nesting;
 pub use tables::{
-    BUILTINS, Builtin, ExceptionText, KEYWORDS, Keyword, RAISED, Row, SYMBOLS, Symbol,
-    builtin_rows, builtins_are_ordered, exception_rows, exceptions_are_ordered, find, keyword_rows,
-    keywords_are_ordered, symbol_rows, symbols_are_ordered,
+    ACTS, ActName, BUILTINS, Builtin, ExceptionText, KEYWORDS, Keyword, RAISED, Row, SYMBOLS,
+    Symbol, WIRE_TAGS, WireTag, act_rows, acts_are_ordered, builtin_rows, builtins_are_ordered,
+    exception_rows, exceptions_are_ordered, find, keyword_rows, keywords_are_ordered, symbol_rows,
+    symbols_are_ordered, wire_operations_are_ordered, wire_rows,
 };

@@ -1,8 +1,10 @@
-//! The tables of the language: keywords, symbols, built-in procedures and the texts of exceptions.
+//! The tables of the language: keywords, symbols, built-in procedures, the texts of exceptions, the names of acts and the
+//! numbers of operations in a frame.
 
 ghost use Rattle.std.specs.Prelude.{◌≡◌, ◌<◌, IfSome, IsTrue, List, ℕ, length, map, position};
 ghost use Rattle.std.specs.Str.{bytes_eq};
-ghost use Rattle.obq_tables.specs.Tables.{are_ordered, builtin_arguments, builtins, exceptions, keywords, nesting_of, symbols};
+ghost use Rattle.std.specs.List.{IsDistinct};
+ghost use Rattle.obq_tables.specs.Tables.{acts, are_ordered, builtin_arguments, builtins, exceptions, keywords, nesting_of, symbols, wire_numbers, wire_operations};
 
 use crate::nesting::Nesting;
 
@@ -37,6 +39,17 @@ pub struct ExceptionText {
     pub text: &'static str,
 }
 
+/// The name of an act in a journal.
+pub struct ActName {
+    pub text: &'static str,
+}
+
+/// An operation that a request may ask for, and its number in a frame.
+pub struct WireTag {
+    pub name: &'static str,
+    pub number: u8,
+}
+
 impl Row for Keyword {
     ghost key_of = { λ r. r.text.now };
 
@@ -66,6 +79,22 @@ impl Row for ExceptionText {
 
     fn key(&self) -> &'static str {
         self.text
+    }
+}
+
+impl Row for ActName {
+    ghost key_of = { λ r. r.text.now };
+
+    fn key(&self) -> &'static str {
+        self.text
+    }
+}
+
+impl Row for WireTag {
+    ghost key_of = { λ r. r.name.now };
+
+    fn key(&self) -> &'static str {
+        self.name
     }
 }
 
@@ -425,6 +454,118 @@ pub const RAISED: [ExceptionText; 20] = [
     ExceptionText { text: "type" },
 ];
 
+/// The names of acts in a journal, in byte order.
+pub const ACTS: [ActName; 24] = [
+    ActName { text: "Again" },
+    ActName { text: "ArrayGet" },
+    ActName { text: "ArraySet" },
+    ActName { text: "Broadcast" },
+    ActName { text: "Call" },
+    ActName { text: "Copy" },
+    ActName { text: "End" },
+    ActName { text: "Engine" },
+    ActName { text: "Export" },
+    ActName { text: "Fork" },
+    ActName { text: "Get" },
+    ActName { text: "GiveUp" },
+    ActName { text: "Hop" },
+    ActName { text: "Import" },
+    ActName { text: "Join" },
+    ActName { text: "Leave" },
+    ActName { text: "Line" },
+    ActName { text: "New" },
+    ActName { text: "Put" },
+    ActName { text: "Redirect" },
+    ActName { text: "Set" },
+    ActName { text: "Signal" },
+    ActName { text: "VarGet" },
+    ActName { text: "VarSet" },
+];
+
+/// The operations of requests, in byte order of their names.
+pub const WIRE_TAGS: [WireTag; 20] = [
+    WireTag {
+        name: "Again",
+        number: 15,
+    },
+    WireTag {
+        name: "ArrayItem",
+        number: 6,
+    },
+    WireTag {
+        name: "ArraySet",
+        number: 8,
+    },
+    WireTag {
+        name: "ArraySize",
+        number: 7,
+    },
+    WireTag {
+        name: "Broadcast",
+        number: 17,
+    },
+    WireTag {
+        name: "Call",
+        number: 2,
+    },
+    WireTag {
+        name: "Copy",
+        number: 4,
+    },
+    WireTag {
+        name: "Engine",
+        number: 20,
+    },
+    WireTag {
+        name: "Export",
+        number: 18,
+    },
+    WireTag {
+        name: "Get",
+        number: 1,
+    },
+    WireTag {
+        name: "GiveUp",
+        number: 14,
+    },
+    WireTag {
+        name: "Import",
+        number: 19,
+    },
+    WireTag {
+        name: "Join",
+        number: 12,
+    },
+    WireTag {
+        name: "Line",
+        number: 13,
+    },
+    WireTag {
+        name: "Put",
+        number: 11,
+    },
+    WireTag {
+        name: "Redirect",
+        number: 5,
+    },
+    WireTag {
+        name: "Set",
+        number: 3,
+    },
+    WireTag {
+        name: "Signal",
+        number: 16,
+    },
+    WireTag {
+        name: "VarGet",
+        number: 9,
+    },
+    WireTag {
+        name: "VarSet",
+        number: 10,
+    },
+];
+
 fn find_row<R: Row>(rows: &[R], key: &[u8]) -> Option<usize>
     ensures { result ≡ position (λ r. bytes_eq (R.key_of r) key.now) rows.now }
 {
@@ -441,22 +582,38 @@ pub fn find<R: Row>(rows: &[R], key: &[u8]) -> Option<usize>
 
 /// The keywords stand in byte order, each once.
 pub fn keywords_are_ordered()
-    ensures { IsTrue (are_ordered keywords) }
+    ensures order { IsTrue (are_ordered keywords) }
+    ensures once { IsDistinct bytes_eq keywords }
 {}
 
 /// The symbols stand in byte order, each once.
 pub fn symbols_are_ordered()
-    ensures { IsTrue (are_ordered symbols) }
+    ensures order { IsTrue (are_ordered symbols) }
+    ensures once { IsDistinct bytes_eq symbols }
 {}
 
 /// The names of the built-in procedures stand in byte order, each once.
 pub fn builtins_are_ordered()
-    ensures { IsTrue (are_ordered builtins) }
+    ensures order { IsTrue (are_ordered builtins) }
+    ensures once { IsDistinct bytes_eq builtins }
 {}
 
 /// The texts of the machine's exceptions stand in byte order, each once.
 pub fn exceptions_are_ordered()
-    ensures { IsTrue (are_ordered exceptions) }
+    ensures order { IsTrue (are_ordered exceptions) }
+    ensures once { IsDistinct bytes_eq exceptions }
+{}
+
+/// The names of acts stand in byte order, each once.
+pub fn acts_are_ordered()
+    ensures order { IsTrue (are_ordered acts) }
+    ensures once { IsDistinct bytes_eq acts }
+{}
+
+/// The names of the operations of requests stand in byte order, each once.
+pub fn wire_operations_are_ordered()
+    ensures order { IsTrue (are_ordered wire_operations) }
+    ensures once { IsDistinct bytes_eq wire_operations }
 {}
 
 /// The table of keywords.
@@ -488,4 +645,19 @@ pub fn exception_rows() -> &'static [ExceptionText]
     ensures { map (λ e. e.text.now) result.now ≡ exceptions }
 {
     &RAISED
+}
+
+/// The table of the names of acts.
+pub fn act_rows() -> &'static [ActName]
+    ensures { map (λ a. a.text.now) result.now ≡ acts }
+{
+    &ACTS
+}
+
+/// The table of the operations of requests.
+pub fn wire_rows() -> &'static [WireTag]
+    ensures names { map (λ w. w.name.now) result.now ≡ wire_operations }
+    ensures numbers { map (λ w. w.number) result.now ≡ wire_numbers }
+{
+    &WIRE_TAGS
 }
