@@ -7,7 +7,8 @@ ghost use Rattle.obq_front.specs.Refusals.{IfRefused, refused_at};
 
 use crate::gathered::Gathered;
 use crate::program::{FrontRefused, Program, Source};
-use crate::single::{SOURCE_LIMIT, Unaccepted};
+use crate::single::{Unaccepted};
+use obq_base::limits::SOURCE_LIMIT;
 use std::alloc::Global;
 
 /// The refusal of the source with this number.

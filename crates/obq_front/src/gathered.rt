@@ -6,7 +6,8 @@ ghost use Rattle.obq_front.specs.Gathering.{Adds};
 ghost use Rattle.obq_front.specs.Refusals.{IfFault};
 
 use crate::program::{Program, Source};
-use crate::single::{Part, SOURCE_LIMIT, Unaccepted, examine_one};
+use crate::single::{Part, Unaccepted, examine_one};
+use obq_base::limits::SOURCE_LIMIT;
 use obq_base::{Block, Name, NoMemory, SourceCode};
 use obq_code::Codes;
 use std::alloc::Global;

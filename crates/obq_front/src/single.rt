@@ -9,14 +9,12 @@ ghost use Rattle.obq_model.specs.Sources.{IsAccepted, IsFault};
 ghost use Rattle.obq_model.specs.Tokens.{IsReading};
 ghost use Rattle.obq_front.specs.Refusals.{IfFault};
 
+use obq_base::limits::SOURCE_LIMIT;
 use obq_base::{Block, NoMemory, SourceCode, SourceFault};
 use obq_lex::{LexRefused, lex};
 use obq_parse::{ParseRefused, parse};
 use obq_scope::{ScopeRefused, resolve};
 use std::alloc::Global;
-
-/// How many bytes a source may have.
-pub const SOURCE_LIMIT: usize = 1_048_576;
 
 /// The tree and the code of an accepted source.
 #[derive(Drop)]

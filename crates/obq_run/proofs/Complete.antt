@@ -20,7 +20,7 @@ use Rattle.obq_model.specs.Sources.{AreAccepted, IsAccepted, IsFault, IsFirstRef
 use Rattle.obq_run.specs.declared.ends.Cause.{Cause}
 use Rattle.obq_run.specs.declared.ends.Cause.TheVariants.{Checked, NoMemory, NotYet, Ran, ReadFault, Refused, SourceTooLong, TooManySites, Usage, WriteFault}
 use Rattle.obq_run.specs.Ends.{IfNotYet, IfReadFault, IfRefused, IfTooLong, IsCheckRefusal, IsRunRefusal}
-use Rattle.obq_run.specs.Held.{AreHeld, AreTold}
+use Rattle.obq_run.specs.Held.{AreHeld, AreTold, IsFaultAt, IsTooLongAt}
 use Rattle.obq_run.specs.Runs.{CheckCompletes, IsNotYetOf, IsRefusalOf, NoneRose, NotYetCompletes, OnlyWrites, RunCompletes, StopsRun}
 use Rattle.obq_run.proofs.PutHistory.{accepted_texts}
 use Rattle.obq_run.proofs.PutTexts.{not_both}
@@ -101,12 +101,12 @@ not_yet_not holds limit paths source tokens texts s k told is_read form h =
     stops_not texts k (one_reading source others tokens stops.1.1 is_read) form stops.1.2
 
 pub run_refused : (holds : List ℕ → Option (List ℕ)) (limit : ℕ) (paths : List (List ℕ)) (Rises : List ℕ → Type 0) (output_rose : Type 0) (cause : Cause) → IsRunRefusal cause
-    → IfReadFault cause (λ file. IsSomeAnd (slice_get paths file) Rises) → IfTooLong cause (λ s. IsSomeAnd (slice_get paths s) (λ p. WhereTold (holds p) (λ xs. limit < length xs)))
+    → IfReadFault cause (IsFaultAt holds limit Rises paths) → IfTooLong cause (IsTooLongAt holds limit paths)
     → IfRefused cause (IsRefusalOf holds limit paths) → IfNotYet cause (IsNotYetOf holds limit paths) → RunCompletes holds limit paths Rises output_rose cause
 run_refused holds limit paths Rises out NoMemory only read long faulty yet = λ source tokens texts told within is_read form none calm. tt
-run_refused holds limit paths Rises out (ReadFault file) only read long faulty yet = λ source tokens texts told within is_read form none calm. absurd (none_at Rises paths file none read)
+run_refused holds limit paths Rises out (ReadFault file) only read long faulty yet = λ source tokens texts told within is_read form none calm. absurd (none_at Rises paths file none read.1)
 run_refused holds limit paths Rises out (SourceTooLong s) only read long faulty yet =
-    λ source tokens texts told within is_read form none calm. absurd (too_long_at holds limit paths (source ∷ []) s told (within, tt) long)
+    λ source tokens texts told within is_read form none calm. absurd (too_long_at holds limit paths (source ∷ []) s told (within, tt) long.1)
 run_refused holds limit paths Rises out (Refused s fault) only read long faulty yet =
     λ source tokens texts told within is_read form none calm. (
     let tree : (tree : Block) × IsAccepted source tokens tree = accepted_texts source tokens texts is_read form in
@@ -123,13 +123,13 @@ run_refused holds limit paths Rises out WriteFault only read long faulty yet = a
 -- ---- sources that don't run yet
 
 pub not_yet_refused : (holds : List ℕ → Option (List ℕ)) (limit : ℕ) (paths : List (List ℕ)) (Rises : List ℕ → Type 0) (output_rose : Type 0) (cause : Cause) → IsRunRefusal cause
-    → IfReadFault cause (λ file. IsSomeAnd (slice_get paths file) Rises) → IfTooLong cause (λ s. IsSomeAnd (slice_get paths s) (λ p. WhereTold (holds p) (λ xs. limit < length xs)))
+    → IfReadFault cause (IsFaultAt holds limit Rises paths) → IfTooLong cause (IsTooLongAt holds limit paths)
     → IfRefused cause (IsRefusalOf holds limit paths) → NotYetCompletes holds limit paths Rises output_rose cause
 not_yet_refused holds limit paths Rises out NoMemory only read long faulty = λ sources trees s k told within accepted stops none calm. tt
 not_yet_refused holds limit paths Rises out (NotYet t j) only read long faulty = λ sources trees s k told within accepted stops none calm. tt
-not_yet_refused holds limit paths Rises out (ReadFault file) only read long faulty = λ sources trees s k told within accepted stops none calm. absurd (none_at Rises paths file none read)
+not_yet_refused holds limit paths Rises out (ReadFault file) only read long faulty = λ sources trees s k told within accepted stops none calm. absurd (none_at Rises paths file none read.1)
 not_yet_refused holds limit paths Rises out (SourceTooLong t) only read long faulty =
-    λ sources trees s k told within accepted stops none calm. absurd (too_long_at holds limit paths sources t told within long)
+    λ sources trees s k told within accepted stops none calm. absurd (too_long_at holds limit paths sources t told within long.1)
 not_yet_refused holds limit paths Rises out (Refused t fault) only read long faulty =
     λ sources trees s k told within accepted stops none calm. absurd (refusal_not holds limit paths sources trees t fault told accepted faulty)
 not_yet_refused holds limit paths Rises out Ran only read long faulty = absurd only
@@ -154,12 +154,12 @@ not_yet_finished holds limit paths source Rises out cause held form = λ sources
 -- ---- a check
 
 pub check_refused : (holds : List ℕ → Option (List ℕ)) (limit : ℕ) (paths : List (List ℕ)) (Rises : List ℕ → Type 0) (output_rose : Type 0) (cause : Cause) → IsCheckRefusal cause
-    → IfReadFault cause (λ file. IsSomeAnd (slice_get paths file) Rises) → IfTooLong cause (λ s. IsSomeAnd (slice_get paths s) (λ p. WhereTold (holds p) (λ xs. limit < length xs)))
+    → IfReadFault cause (IsFaultAt holds limit Rises paths) → IfTooLong cause (IsTooLongAt holds limit paths)
     → IfRefused cause (IsRefusalOf holds limit paths) → CheckCompletes holds limit paths Rises output_rose cause
 check_refused holds limit paths Rises out NoMemory only read long faulty = λ sources trees told within accepted none calm. tt
-check_refused holds limit paths Rises out (ReadFault file) only read long faulty = λ sources trees told within accepted none calm. absurd (none_at Rises paths file none read)
+check_refused holds limit paths Rises out (ReadFault file) only read long faulty = λ sources trees told within accepted none calm. absurd (none_at Rises paths file none read.1)
 check_refused holds limit paths Rises out (SourceTooLong s) only read long faulty =
-    λ sources trees told within accepted none calm. absurd (too_long_at holds limit paths sources s told within long)
+    λ sources trees told within accepted none calm. absurd (too_long_at holds limit paths sources s told within long.1)
 check_refused holds limit paths Rises out (Refused s fault) only read long faulty =
     λ sources trees told within accepted none calm. absurd (refusal_not holds limit paths sources trees s fault told accepted faulty)
 check_refused holds limit paths Rises out (NotYet s k) only read long faulty = absurd only

@@ -1,6 +1,7 @@
 -- A source that only writes texts has the journal that the run makes.
 use Rattle.std.proofs.Common.{List, [], ap, ap₂, arith, codes, length, map, not, refl, subst, sym, ℕ, ◌*◌, ◌+◌, ◌≡◌, ◌≤◌, ◌∙◌, ◌∷◌}
 use Rattle.std.specs.List.{filter, flat_map}
+use Rattle.obq_base.specs.declared.limits.TheConstants.{DEFAULT_TURNS, SOURCE_LIMIT}
 use Rattle.obq_base.specs.declared.tokens.Token.{Token}
 use Rattle.obq_base.specs.declared.tokens.TokenKind.TheVariants as kind
 use Rattle.obq_base.specs.declared.trees.Block.{Block}
@@ -92,8 +93,8 @@ accepted_texts source tokens texts is_read form =
     (block (map item_of (groups_print form.1).prints) (place tokens), record { reading = is_read; derived = derived_of is_read form; bound = bound_texts (groups_print form.1).prints (place tokens) })
 
 -- a source that only writes texts ran to its end, with the journal of its texts
-pub end_of : (source : List ℕ) (tokens : List Token) (texts : List (List ℕ)) → IsReading source tokens → IsPutTexts tokens texts → length source ≤ 1048576
-    → IsEndOf (source ∷ []) 100000 (record { turns = 100000; entries = history.entries_of texts }) (flat_map (λ t. t) texts ∷ []) one_ended
+pub end_of : (source : List ℕ) (tokens : List Token) (texts : List (List ℕ)) → IsReading source tokens → IsPutTexts tokens texts → length source ≤ SOURCE_LIMIT
+    → IsEndOf (source ∷ []) DEFAULT_TURNS (record { turns = DEFAULT_TURNS; entries = history.entries_of texts }) (flat_map (λ t. t) texts ∷ []) one_ended
 end_of source tokens texts is_read (rest, groups, end) within =
     let prints = groups_print groups in
     let ps = prints.prints in
@@ -103,14 +104,14 @@ end_of source tokens texts is_read (rest, groups, end) within =
     let entries : print_entries ps ≡ history.entries_of texts = entries_same ps ∙ ap history.entries_of prints.texts_are in
     let bytes : joined_after [] ps ≡ flat_map (λ t. t) texts = joined_texts ps ∙ (texts_joined ps ∙ ap (flat_map (λ t. t)) prints.texts_are) in
     let count : length texts ≡ length ps = ap length (sym prints.texts_are) ∙ length-map-text ps in
-    let fits : print_turns ps ≤ 100000 = omega (arith, print_turns_enough ps, count, groups_width groups, reading_width source tokens is_read) in
-    let run = prints_texts ps (place tokens) 100000 fits in
+    let fits : print_turns ps ≤ DEFAULT_TURNS = omega (arith, print_turns_enough ps, count, groups_width groups, reading_width source tokens is_read) in
+    let run = prints_texts ps (place tokens) DEFAULT_TURNS fits in
     record {
       trees = tree ∷ [];
       accepted = ((tokens, record { reading = is_read; derived = derived; bound = bound_texts ps (place tokens) }), tt);
       last = printed_config (joined_after [] ps) (print_turns ps);
       limit = refl;
-      replays = ap₂ (λ ts es. replay ts 100000 es) trees (sym entries) ∙ run.0;
+      replays = ap₂ (λ ts es. replay ts DEFAULT_TURNS es) trees (sym entries) ∙ run.0;
       each = subst TakeTurns entries run.1;
       returned = tt;
       over = run.2;

@@ -1,5 +1,6 @@
 -- Why sources that were read and are accepted were not run.
 use Rattle.std.proofs.Common.{List, Option, length, ℕ, ◌≤◌, ◌∷◌, []}
+use Rattle.obq_base.specs.declared.limits.TheConstants.{SOURCE_LIMIT}
 use Rattle.obq_base.specs.declared.faults.LexKind.{LexKind}
 use Rattle.obq_base.specs.declared.tokens.Token.{Token}
 use Rattle.obq_base.specs.declared.trees.Block.{Block}
@@ -49,7 +50,7 @@ one_accepted source (tree ∷ trees) h = (h.0.0, tree, h.0.1)
 pub never_faulty : (source : List ℕ) (trees : List Block) (kind : LexKind) (place : ℕ) → AreAccepted (source ∷ []) trees → IsFirstFault source kind place → ⊥
 never_faulty source trees kind place h fault = let one = one_accepted source trees h in no_fault_of_a_reading source one.0 kind place one.2.reading fault
 
-pub one_within : (holds : List ℕ → Option (List ℕ)) (paths : List (List ℕ)) (source : List ℕ) → AreHeld holds 1048576 paths (source ∷ []) → length source ≤ 1048576
+pub one_within : (holds : List ℕ → Option (List ℕ)) (paths : List (List ℕ)) (source : List ℕ) → AreHeld holds SOURCE_LIMIT paths (source ∷ []) → length source ≤ SOURCE_LIMIT
 one_within holds [] source held = absurd held
 one_within holds (p ∷ ps) source held = held.1
 

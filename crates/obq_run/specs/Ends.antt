@@ -1,8 +1,10 @@
 -- Words on the cause of an end.
-use Rattle.std.specs.Prelude.{List, [], slice_index_or, ℕ, ⊤}
+use Rattle.std.specs.Prelude.{List, Option, [], slice_index_or, ℕ, ⊤, ◌⊎◌}
+use Rattle.std.specs.Io.KnownBytes.{Appends}
 use Rattle.obq_base.specs.declared.faults.SourceFault.{SourceFault}
 use Rattle.obq_front.specs.declared.program.FrontRefused.{FrontRefused}
 use Rattle.obq_front.specs.declared.program.FrontRefused.TheVariants as front
+use Rattle.obq_io.specs.Known.{GetsPrefix}
 use Rattle.obq_io.specs.declared.reading.Unread.{Unread}
 use Rattle.obq_io.specs.declared.reading.Unread.TheVariants as unread
 use Rattle.obq_model.specs.Output.{no_memory_line, not_yet_line, read_fault_line, refused_line, too_long_line, too_many_line, usage_line, write_fault_line}
@@ -38,239 +40,119 @@ line_of names (ReadFault file) = read_fault_line file
 line_of names WriteFault = write_fault_line
 line_of names NoMemory = no_memory_line
 
+-- a sink got the line, or a prefix of it and its count of faults rose
+abbrev pub GetsLine : (old new : Option (List ℕ)) → Type 0 → List ℕ → Type 0
+GetsLine old new rose line = GetsPrefix old new line × (Appends old new line ⊎ rose)
+
 -- the call ended before it wrote
 abbrev pub IsRefusal : Cause → Type 0
 IsRefusal Ran = ⊥
 IsRefusal Checked = ⊥
-IsRefusal (Usage word) = ⊤
-IsRefusal (TooManySites word) = ⊤
-IsRefusal (SourceTooLong source) = ⊤
-IsRefusal (Refused source fault) = ⊤
-IsRefusal (NotYet source token) = ⊤
-IsRefusal (ReadFault file) = ⊤
 IsRefusal WriteFault = ⊥
-IsRefusal NoMemory = ⊤
+IsRefusal cause = ⊤
 
 -- the words were refused at this one, or for too many sites at this one, or were in form, as P, T and Q say
 abbrev pub MatchWords : Cause → (ℕ → Type 0) → (ℕ → Type 0) → Type 0 → Type 0
-MatchWords Ran P T Q = Q
-MatchWords Checked P T Q = Q
 MatchWords (Usage word) P T Q = P word
 MatchWords (TooManySites word) P T Q = T word
-MatchWords (SourceTooLong source) P T Q = Q
-MatchWords (Refused source fault) P T Q = Q
-MatchWords (NotYet source token) P T Q = Q
-MatchWords (ReadFault file) P T Q = Q
-MatchWords WriteFault P T Q = Q
-MatchWords NoMemory P T Q = Q
+MatchWords cause P T Q = Q
 
 -- P holds of the source that is too long
 abbrev pub IfTooLong : Cause → (ℕ → Type 0) → Type 0
-IfTooLong Ran P = ⊤
-IfTooLong Checked P = ⊤
-IfTooLong (Usage word) P = ⊤
-IfTooLong (TooManySites word) P = ⊤
 IfTooLong (SourceTooLong source) P = P source
-IfTooLong (Refused source fault) P = ⊤
-IfTooLong (NotYet source token) P = ⊤
-IfTooLong (ReadFault file) P = ⊤
-IfTooLong WriteFault P = ⊤
-IfTooLong NoMemory P = ⊤
+IfTooLong cause P = ⊤
 
 -- P holds of the source that is refused, and of its fault
 abbrev pub IfRefused : Cause → (ℕ → SourceFault → Type 0) → Type 0
-IfRefused Ran P = ⊤
-IfRefused Checked P = ⊤
-IfRefused (Usage word) P = ⊤
-IfRefused (TooManySites word) P = ⊤
-IfRefused (SourceTooLong source) P = ⊤
 IfRefused (Refused source fault) P = P source fault
-IfRefused (NotYet source token) P = ⊤
-IfRefused (ReadFault file) P = ⊤
-IfRefused WriteFault P = ⊤
-IfRefused NoMemory P = ⊤
+IfRefused cause P = ⊤
 
 -- P holds of the source that doesn't run yet, and of the token
 abbrev pub IfNotYet : Cause → (ℕ → ℕ → Type 0) → Type 0
-IfNotYet Ran P = ⊤
-IfNotYet Checked P = ⊤
-IfNotYet (Usage word) P = ⊤
-IfNotYet (TooManySites word) P = ⊤
-IfNotYet (SourceTooLong source) P = ⊤
-IfNotYet (Refused source fault) P = ⊤
 IfNotYet (NotYet source token) P = P source token
-IfNotYet (ReadFault file) P = ⊤
-IfNotYet WriteFault P = ⊤
-IfNotYet NoMemory P = ⊤
+IfNotYet cause P = ⊤
 
 -- P holds of the file that wasn't read
 abbrev pub IfReadFault : Cause → (ℕ → Type 0) → Type 0
-IfReadFault Ran P = ⊤
-IfReadFault Checked P = ⊤
-IfReadFault (Usage word) P = ⊤
-IfReadFault (TooManySites word) P = ⊤
-IfReadFault (SourceTooLong source) P = ⊤
-IfReadFault (Refused source fault) P = ⊤
-IfReadFault (NotYet source token) P = ⊤
 IfReadFault (ReadFault file) P = P file
-IfReadFault WriteFault P = ⊤
-IfReadFault NoMemory P = ⊤
+IfReadFault cause P = ⊤
 
 -- P holds where writing failed
 abbrev pub OnWriteFault : Cause → Type 0 → Type 0
-OnWriteFault Ran P = ⊤
-OnWriteFault Checked P = ⊤
-OnWriteFault (Usage word) P = ⊤
-OnWriteFault (TooManySites word) P = ⊤
-OnWriteFault (SourceTooLong source) P = ⊤
-OnWriteFault (Refused source fault) P = ⊤
-OnWriteFault (NotYet source token) P = ⊤
-OnWriteFault (ReadFault file) P = ⊤
 OnWriteFault WriteFault P = P
-OnWriteFault NoMemory P = ⊤
+OnWriteFault cause P = ⊤
 
 -- P holds where it ran
 abbrev pub OnRan : Cause → Type 0 → Type 0
 OnRan Ran P = P
-OnRan Checked P = ⊤
-OnRan (Usage word) P = ⊤
-OnRan (TooManySites word) P = ⊤
-OnRan (SourceTooLong source) P = ⊤
-OnRan (Refused source fault) P = ⊤
-OnRan (NotYet source token) P = ⊤
-OnRan (ReadFault file) P = ⊤
-OnRan WriteFault P = ⊤
-OnRan NoMemory P = ⊤
+OnRan cause P = ⊤
 
 -- the end of a run of words in form
 abbrev pub IsRunEnd : Cause → Type 0
-IsRunEnd Ran = ⊤
 IsRunEnd Checked = ⊥
 IsRunEnd (Usage word) = ⊥
 IsRunEnd (TooManySites word) = ⊥
-IsRunEnd (SourceTooLong source) = ⊤
-IsRunEnd (Refused source fault) = ⊤
-IsRunEnd (NotYet source token) = ⊤
-IsRunEnd (ReadFault file) = ⊤
-IsRunEnd WriteFault = ⊤
-IsRunEnd NoMemory = ⊤
+IsRunEnd cause = ⊤
 
 -- a refusal of a run of words in form
 abbrev pub IsRunRefusal : Cause → Type 0
-IsRunRefusal Ran = ⊥
-IsRunRefusal Checked = ⊥
-IsRunRefusal (Usage word) = ⊥
-IsRunRefusal (TooManySites word) = ⊥
 IsRunRefusal (SourceTooLong source) = ⊤
 IsRunRefusal (Refused source fault) = ⊤
 IsRunRefusal (NotYet source token) = ⊤
 IsRunRefusal (ReadFault file) = ⊤
-IsRunRefusal WriteFault = ⊥
 IsRunRefusal NoMemory = ⊤
+IsRunRefusal cause = ⊥
 
 -- P holds where each source is accepted
 abbrev pub OnChecked : Cause → Type 0 → Type 0
-OnChecked Ran P = ⊤
 OnChecked Checked P = P
-OnChecked (Usage word) P = ⊤
-OnChecked (TooManySites word) P = ⊤
-OnChecked (SourceTooLong source) P = ⊤
-OnChecked (Refused source fault) P = ⊤
-OnChecked (NotYet source token) P = ⊤
-OnChecked (ReadFault file) P = ⊤
-OnChecked WriteFault P = ⊤
-OnChecked NoMemory P = ⊤
+OnChecked cause P = ⊤
 
 -- the end of a check
 abbrev pub IsCheckEnd : Cause → Type 0
 IsCheckEnd Ran = ⊥
-IsCheckEnd Checked = ⊤
 IsCheckEnd (Usage word) = ⊥
 IsCheckEnd (TooManySites word) = ⊥
-IsCheckEnd (SourceTooLong source) = ⊤
-IsCheckEnd (Refused source fault) = ⊤
 IsCheckEnd (NotYet source token) = ⊥
-IsCheckEnd (ReadFault file) = ⊤
-IsCheckEnd WriteFault = ⊤
-IsCheckEnd NoMemory = ⊤
+IsCheckEnd cause = ⊤
 
 -- a refusal of a check
 abbrev pub IsCheckRefusal : Cause → Type 0
-IsCheckRefusal Ran = ⊥
-IsCheckRefusal Checked = ⊥
-IsCheckRefusal (Usage word) = ⊥
-IsCheckRefusal (TooManySites word) = ⊥
 IsCheckRefusal (SourceTooLong source) = ⊤
 IsCheckRefusal (Refused source fault) = ⊤
-IsCheckRefusal (NotYet source token) = ⊥
 IsCheckRefusal (ReadFault file) = ⊤
-IsCheckRefusal WriteFault = ⊥
 IsCheckRefusal NoMemory = ⊤
+IsCheckRefusal cause = ⊥
 
 -- each source was accepted, and that was written whole or not
 abbrev pub IsCheckFinish : Cause → Type 0
-IsCheckFinish Ran = ⊥
 IsCheckFinish Checked = ⊤
-IsCheckFinish (Usage word) = ⊥
-IsCheckFinish (TooManySites word) = ⊥
-IsCheckFinish (SourceTooLong source) = ⊥
-IsCheckFinish (Refused source fault) = ⊥
-IsCheckFinish (NotYet source token) = ⊥
-IsCheckFinish (ReadFault file) = ⊥
 IsCheckFinish WriteFault = ⊤
-IsCheckFinish NoMemory = ⊥
+IsCheckFinish cause = ⊥
 
 -- each source is accepted, or no memory was left
 abbrev pub IsCheckedOrNoMemory : Cause → Type 0
-IsCheckedOrNoMemory Ran = ⊥
 IsCheckedOrNoMemory Checked = ⊤
-IsCheckedOrNoMemory (Usage word) = ⊥
-IsCheckedOrNoMemory (TooManySites word) = ⊥
-IsCheckedOrNoMemory (SourceTooLong source) = ⊥
-IsCheckedOrNoMemory (Refused source fault) = ⊥
-IsCheckedOrNoMemory (NotYet source token) = ⊥
-IsCheckedOrNoMemory (ReadFault file) = ⊥
-IsCheckedOrNoMemory WriteFault = ⊥
 IsCheckedOrNoMemory NoMemory = ⊤
+IsCheckedOrNoMemory cause = ⊥
 
 -- it ran, or no memory was left
 abbrev pub IsRanOrNoMemory : Cause → Type 0
 IsRanOrNoMemory Ran = ⊤
-IsRanOrNoMemory Checked = ⊥
-IsRanOrNoMemory (Usage word) = ⊥
-IsRanOrNoMemory (TooManySites word) = ⊥
-IsRanOrNoMemory (SourceTooLong source) = ⊥
-IsRanOrNoMemory (Refused source fault) = ⊥
-IsRanOrNoMemory (NotYet source token) = ⊥
-IsRanOrNoMemory (ReadFault file) = ⊥
-IsRanOrNoMemory WriteFault = ⊥
 IsRanOrNoMemory NoMemory = ⊤
+IsRanOrNoMemory cause = ⊥
 
 -- it doesn't run yet, or no memory was left
 abbrev pub IsNotYetOrNoMemory : Cause → Type 0
-IsNotYetOrNoMemory Ran = ⊥
-IsNotYetOrNoMemory Checked = ⊥
-IsNotYetOrNoMemory (Usage word) = ⊥
-IsNotYetOrNoMemory (TooManySites word) = ⊥
-IsNotYetOrNoMemory (SourceTooLong source) = ⊥
-IsNotYetOrNoMemory (Refused source fault) = ⊥
 IsNotYetOrNoMemory (NotYet source token) = ⊤
-IsNotYetOrNoMemory (ReadFault file) = ⊥
-IsNotYetOrNoMemory WriteFault = ⊥
 IsNotYetOrNoMemory NoMemory = ⊤
+IsNotYetOrNoMemory cause = ⊥
 
 -- it ran, and its output was written whole or not
 abbrev pub IsRunFinish : Cause → Type 0
 IsRunFinish Ran = ⊤
-IsRunFinish Checked = ⊥
-IsRunFinish (Usage word) = ⊥
-IsRunFinish (TooManySites word) = ⊥
-IsRunFinish (SourceTooLong source) = ⊥
-IsRunFinish (Refused source fault) = ⊥
-IsRunFinish (NotYet source token) = ⊥
-IsRunFinish (ReadFault file) = ⊥
 IsRunFinish WriteFault = ⊤
-IsRunFinish NoMemory = ⊥
+IsRunFinish cause = ⊥
 
 -- the cause where a file wasn't read
 abbrev pub unread_cause : ℕ → Unread → Cause

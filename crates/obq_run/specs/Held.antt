@@ -1,6 +1,7 @@
 -- Sources that were read, and sources that are told.
-use Rattle.std.specs.Prelude.{List, Option, Some, [], length, ℕ, ◌≡◌, ◌≤◌, ◌∷◌}
-use Rattle.obq_io.specs.Known.{IsIt}
+use Rattle.std.specs.Prelude.{IsSomeAnd, List, Option, Some, [], length, slice_get, take, ℕ, ◌<◌, ◌≡◌, ◌≤◌, ◌∷◌}
+use Rattle.obq_io.specs.Causes.{Rose}
+use Rattle.obq_io.specs.Known.{IsIt, WhereTold}
 
 -- the sources are within the limit, and each is what its path holds, where that is told
 abbrev pub AreHeld : (List ℕ → Option (List ℕ)) → ℕ → List (List ℕ) → List (List ℕ) → Type 0
@@ -15,3 +16,20 @@ AreTold holds [] [] = Unit {0}
 AreTold holds (path ∷ paths) (source ∷ sources) = (holds path ≡ Some source) × AreTold holds paths sources
 AreTold holds [] (source ∷ sources) = ⊥
 AreTold holds (path ∷ paths) [] = ⊥
+
+-- each path holds at most so many bytes, where it tells what it holds
+abbrev pub AreWithinLimit : (List ℕ → Option (List ℕ)) → ℕ → List (List ℕ) → Type 0
+AreWithinLimit holds limit [] = Unit {0}
+AreWithinLimit holds limit (path ∷ paths) = WhereTold (holds path) (λ xs. length xs ≤ limit) × AreWithinLimit holds limit paths
+
+-- the count of faults of a path rose
+abbrev pub PathRose : (before now : List ℕ → ℕ) → List ℕ → Type 0
+PathRose before now path = Rose (before path) (now path)
+
+-- reading stopped at this file, since the count of its path rose; the files before it are within the limit
+abbrev pub IsFaultAt : (List ℕ → Option (List ℕ)) → ℕ → (List ℕ → Type 0) → List (List ℕ) → ℕ → Type 0
+IsFaultAt holds limit Rises paths file = AreWithinLimit holds limit (take file paths) × IsSomeAnd (slice_get paths file) Rises
+
+-- reading stopped at this file, which has more bytes than the limit, where that is told; the files before it are within the limit
+abbrev pub IsTooLongAt : (List ℕ → Option (List ℕ)) → ℕ → List (List ℕ) → ℕ → Type 0
+IsTooLongAt holds limit paths file = AreWithinLimit holds limit (take file paths) × IsSomeAnd (slice_get paths file) (λ p. WhereTold (holds p) (λ xs. limit < length xs))

@@ -1,19 +1,20 @@
 //! Sources that are read and examined.
 
-ghost use Rattle.std.specs.Prelude.{◌≡◌, ◌<◌, ◌≤◌, IfErr, IfOk, IsSomeAnd, List, length, slice_get, ℕ};
+ghost use Rattle.std.specs.Prelude.{◌≡◌, ◌<◌, ◌≤◌, IfErr, IfOk, List, length, ℕ};
 ghost use Rattle.obq_base.specs.declared.trees.Block.{Block};
 ghost use Rattle.obq_front.specs.Contents.{contents};
-ghost use Rattle.obq_io.specs.Causes.{Rose};
-ghost use Rattle.obq_io.specs.Known.{WhereTold};
+
+
 ghost use Rattle.obq_model.specs.Sources.{AreAccepted};
 ghost use Rattle.obq_run.specs.Ends.{IfReadFault, IfRefused, IfTooLong, IsCheckRefusal, refusal_cause, stop_cause};
-ghost use Rattle.obq_run.specs.Held.{AreHeld};
+ghost use Rattle.obq_run.specs.Held.{AreHeld, IsFaultAt, IsTooLongAt, PathRose};
 ghost use Rattle.obq_run.specs.Runs.{IsRefusalOf};
 ghost use Rattle.obq_words.specs.Words.{paths_of};
 
 use crate::ends::Cause;
 use crate::reading::{Stopped, read_sources};
-use obq_front::{FrontRefused, SOURCE_LIMIT, Source, front};
+use obq_base::limits::SOURCE_LIMIT;
+use obq_front::{FrontRefused, Source, front};
 use obq_io::{Files, Unread};
 use obq_words::SiteWord;
 use std::alloc::Global;
@@ -52,8 +53,8 @@ pub fn accepted_sources<F: Files>(
     ensures held { IfOk result (λ sources. AreHeld (F.holds files.old) SOURCE_LIMIT (paths_of sites.now) (contents sources.items)) }
     ensures accepted { IfOk result (λ sources. (trees : List Block) × AreAccepted (contents sources.items) trees) }
     ensures only { IfErr result IsCheckRefusal }
-    ensures read_fault { IfErr result (λ cause. IfReadFault cause (λ file. IsSomeAnd (slice_get (paths_of sites.now) file) (λ p. Rose (F.faults files.old p) (F.faults files.new p)))) }
-    ensures too_long { IfErr result (λ cause. IfTooLong cause (λ s. IsSomeAnd (slice_get (paths_of sites.now) s) (λ p. WhereTold (F.holds files.old p) (λ xs. SOURCE_LIMIT < length xs)))) }
+    ensures read_fault { IfErr result (λ cause. IfReadFault cause (IsFaultAt (F.holds files.old) SOURCE_LIMIT (PathRose (F.faults files.old) (F.faults files.new)) (paths_of sites.now))) }
+    ensures too_long { IfErr result (λ cause. IfTooLong cause (IsTooLongAt (F.holds files.old) SOURCE_LIMIT (paths_of sites.now))) }
     ensures refused { IfErr result (λ cause. IfRefused cause (IsRefusalOf (F.holds files.old) SOURCE_LIMIT (paths_of sites.now))) }
 {
     let sources = match read_sources(alloc, files, sites) {

@@ -1,11 +1,12 @@
 //! The examination of sources that aren't run.
 
-ghost use Rattle.std.specs.Prelude.{◌≡◌, ◌⊎◌, ◌<◌, ◌≤◌, [], IfErr, IsSomeAnd, List, OnOk, length, slice_get, ℕ};
+ghost use Rattle.std.specs.Prelude.{◌≡◌, ◌⊎◌, ◌<◌, ◌≤◌, [], IfErr, List, OnOk, length, ℕ};
 ghost use Rattle.std.specs.Io.KnownBytes.{Appends};
 ghost use Rattle.obq_io.specs.Causes.{Rose};
-ghost use Rattle.obq_io.specs.Known.{GetsPrefix, WhereTold};
+ghost use Rattle.obq_io.specs.Known.{GetsPrefix};
 ghost use Rattle.obq_model.specs.Output.{check_text};
-ghost use Rattle.obq_run.specs.Ends.{IfReadFault, IfRefused, IfTooLong, IsCheckEnd, IsCheckFinish, IsCheckRefusal, IsRefusal, OnChecked, OnWriteFault, line_of, status_of};
+ghost use Rattle.obq_run.specs.Ends.{GetsLine, IfReadFault, IfRefused, IfTooLong, IsCheckEnd, IsCheckFinish, IsCheckRefusal, IsRefusal, OnChecked, OnWriteFault, line_of, status_of};
+ghost use Rattle.obq_run.specs.Held.{IsFaultAt, IsTooLongAt, PathRose};
 ghost use Rattle.obq_run.specs.Runs.{CheckCompletes, IsCheckOf, IsRefusalOf};
 ghost use Rattle.obq_words.specs.Words.{AreInForm, names_of, paths_of};
 
@@ -14,7 +15,7 @@ use crate::ends::{Cause, End, status_for};
 use crate::journals::Journal;
 use crate::run::refuse;
 use crate::texts::{write_cause, write_checked};
-use obq_front::SOURCE_LIMIT;
+use obq_base::limits::SOURCE_LIMIT;
 use obq_io::{Files, Sink};
 use obq_words::SiteWord;
 use std::alloc::Global;
@@ -25,8 +26,8 @@ fn check_files<F: Files>(alloc: Global, files: &mut F, sites: &[SiteWord]) -> Re
     ensures same { (n : List ℕ) → F.holds files.new n ≡ F.holds files.old n }
     ensures accepted { OnOk result (IsCheckOf (F.holds files.old) SOURCE_LIMIT (paths_of sites.now)) }
     ensures only { IfErr result IsCheckRefusal }
-    ensures read_fault { IfErr result (λ cause. IfReadFault cause (λ file. IsSomeAnd (slice_get (paths_of sites.now) file) (λ p. Rose (F.faults files.old p) (F.faults files.new p)))) }
-    ensures too_long { IfErr result (λ cause. IfTooLong cause (λ s. IsSomeAnd (slice_get (paths_of sites.now) s) (λ p. WhereTold (F.holds files.old p) (λ xs. SOURCE_LIMIT < length xs)))) }
+    ensures read_fault { IfErr result (λ cause. IfReadFault cause (IsFaultAt (F.holds files.old) SOURCE_LIMIT (PathRose (F.faults files.old) (F.faults files.new)) (paths_of sites.now))) }
+    ensures too_long { IfErr result (λ cause. IfTooLong cause (IsTooLongAt (F.holds files.old) SOURCE_LIMIT (paths_of sites.now))) }
     ensures refused { IfErr result (λ cause. IfRefused cause (IsRefusalOf (F.holds files.old) SOURCE_LIMIT (paths_of sites.now))) }
 {
     match accepted_sources(alloc, files, sites) {
@@ -43,8 +44,7 @@ fn finish<O: Sink, E: Sink>(alloc: Global, out: &mut O, err: &mut E, sites: &[Si
     ensures write_fault { OnWriteFault result.cause (Rose (O.faults out.old) (O.faults out.new)) }
     ensures only { IsCheckFinish result.cause }
     ensures status { result.status ≡ status_of result.cause }
-    ensures told { GetsPrefix (E.written err.old) (E.written err.new) (line_of (names_of sites.now) result.cause) }
-    ensures told_whole { Appends (E.written err.old) (E.written err.new) (line_of (names_of sites.now) result.cause) ⊎ Rose (E.faults err.old) (E.faults err.new) }
+    ensures told { GetsLine (E.written err.old) (E.written err.new) (Rose (E.faults err.old) (E.faults err.new)) (line_of (names_of sites.now) result.cause) }
     ensures quiet { OnChecked result.cause (err.new ≡ err.old) }
 {
     let cause = match write_checked(out, sites) {
@@ -74,8 +74,8 @@ pub fn check_sources<F: Files, O: Sink, E: Sink>(
 
     // Each cause comes only where it may.
     ensures only { IsCheckEnd result.cause }
-    ensures read_fault { IfReadFault result.cause (λ file. IsSomeAnd (slice_get (paths_of sites.now) file) (λ p. Rose (F.faults files.old p) (F.faults files.new p))) }
-    ensures too_long { IfTooLong result.cause (λ s. IsSomeAnd (slice_get (paths_of sites.now) s) (λ p. WhereTold (F.holds files.old p) (λ xs. SOURCE_LIMIT < length xs))) }
+    ensures read_fault { IfReadFault result.cause (IsFaultAt (F.holds files.old) SOURCE_LIMIT (PathRose (F.faults files.old) (F.faults files.new)) (paths_of sites.now)) }
+    ensures too_long { IfTooLong result.cause (IsTooLongAt (F.holds files.old) SOURCE_LIMIT (paths_of sites.now)) }
     ensures refused { IfRefused result.cause (IsRefusalOf (F.holds files.old) SOURCE_LIMIT (paths_of sites.now)) }
     ensures write_fault { OnWriteFault result.cause (Rose (O.faults out.old) (O.faults out.new)) }
 
@@ -85,13 +85,12 @@ pub fn check_sources<F: Files, O: Sink, E: Sink>(
     ensures part { OnWriteFault result.cause (IsCheckOf (F.holds files.old) SOURCE_LIMIT (paths_of sites.now)
         × GetsPrefix (O.written out.old) (O.written out.new) (check_text (names_of sites.now))) }
     ensures status { result.status ≡ status_of result.cause }
-    ensures completes { CheckCompletes (F.holds files.old) SOURCE_LIMIT (paths_of sites.now) (λ p. Rose (F.faults files.old p) (F.faults files.new p)) (Rose (O.faults out.old) (O.faults out.new)) result.cause }
+    ensures completes { CheckCompletes (F.holds files.old) SOURCE_LIMIT (paths_of sites.now) (PathRose (F.faults files.old) (F.faults files.new)) (Rose (O.faults out.old) (O.faults out.new)) result.cause }
 
     // A refusal writes nothing but its line.
     ensures unwritten { IsRefusal result.cause → out.new ≡ out.old }
     ensures no_journal { result.journal.entries ≡ [] }
-    ensures told { GetsPrefix (E.written err.old) (E.written err.new) (line_of (names_of sites.now) result.cause) }
-    ensures told_whole { Appends (E.written err.old) (E.written err.new) (line_of (names_of sites.now) result.cause) ⊎ Rose (E.faults err.old) (E.faults err.new) }
+    ensures told { GetsLine (E.written err.old) (E.written err.new) (Rose (E.faults err.old) (E.faults err.new)) (line_of (names_of sites.now) result.cause) }
     ensures quiet { OnChecked result.cause (err.new ≡ err.old) }
     ensures same { (n : List ℕ) → F.holds files.new n ≡ F.holds files.old n }
 {

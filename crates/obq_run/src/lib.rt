@@ -16,7 +16,6 @@ mod top;
 pub use check::check_sources;
 pub use ends::{Cause, End};
 pub use journals::Journal;
-pub use run::TURNS;
 pub use top::obliq;
 
 #[cfg(test)]

@@ -1,14 +1,15 @@
 //! Reading the sources of the sites.
 
-ghost use Rattle.std.specs.Prelude.{◌≡◌, ◌<◌, ◌≤◌, ℕ, List, IfErr, IfOk, IsSomeAnd, MatchResult, length, slice_get, string_bytes};
+ghost use Rattle.std.specs.Prelude.{◌≡◌, ◌<◌, ◌≤◌, ℕ, List, IfErr, IfOk, MatchResult, length, string_bytes};
 ghost use Rattle.obq_front.specs.Contents as front;
 ghost use Rattle.obq_io.specs.Causes.{Rose};
 ghost use Rattle.obq_io.specs.Known.{IsIt, WhereTold};
 ghost use Rattle.obq_io.specs.Reads.{MatchUnread};
-ghost use Rattle.obq_run.specs.Held.{AreHeld};
+ghost use Rattle.obq_run.specs.Held.{AreHeld, IsFaultAt, IsTooLongAt, PathRose};
 ghost use Rattle.obq_words.specs.Words.{names_of, paths_of};
 
-use obq_front::{SOURCE_LIMIT, Source};
+use obq_base::limits::SOURCE_LIMIT;
+use obq_front::{Source};
 use obq_io::{Files, Unread, read_file};
 use obq_words::SiteWord;
 use std::alloc::Global;
@@ -46,7 +47,7 @@ pub fn read_sources<F: Files>(
     ensures same { (n : List ℕ) → F.holds files.new n ≡ F.holds files.old n }
     ensures held { IfOk result (λ sources. AreHeld (F.holds files.old) SOURCE_LIMIT (paths_of sites.now) (front.contents sources.items)) }
     ensures named { IfOk result (λ sources. front.names_of sources.items ≡ names_of sites.now) }
-    ensures unread { IfErr result (λ s. IsSomeAnd (slice_get (paths_of sites.now) s.file) (λ p. MatchUnread s.why (Rose (F.faults files.old p) (F.faults files.new p)) (WhereTold (F.holds files.old p) (λ xs. SOURCE_LIMIT < length xs)))) }
+    ensures unread { IfErr result (λ s. MatchUnread s.why (IsFaultAt (F.holds files.old) SOURCE_LIMIT (PathRose (F.faults files.old) (F.faults files.new)) (paths_of sites.now) s.file) (IsTooLongAt (F.holds files.old) SOURCE_LIMIT (paths_of sites.now) s.file)) }
 {
     let mut sources = Vec::new(alloc);
     for (i, site) in sites.iter().enumerate() {

@@ -1,15 +1,16 @@
 //! The run of sources: so far of one source that only writes texts.
 
-ghost use Rattle.std.specs.Prelude.{◌≡◌, ◌⊎◌, ◌<◌, ◌≤◌, ◌∷◌, [], IfErr, IfOk, IsSomeAnd, List, length, slice_get, ℕ};
+ghost use Rattle.std.specs.Prelude.{◌≡◌, ◌⊎◌, ◌<◌, ◌≤◌, ◌∷◌, [], IfErr, IfOk, List, length, ℕ};
 ghost use Rattle.std.specs.List.{zip};
 ghost use Rattle.std.specs.Io.KnownBytes.{Appends};
-ghost use Rattle.obq_base.specs.declared.tokens.Token.{Token};
+
 ghost use Rattle.obq_base.specs.declared.trees.Block.{Block};
 ghost use Rattle.obq_io.specs.Causes.{Rose};
-ghost use Rattle.obq_io.specs.Known.{GetsPrefix, WhereTold};
+ghost use Rattle.obq_io.specs.Known.{GetsPrefix};
 ghost use Rattle.obq_model.specs.Output.{run_text};
 ghost use Rattle.obq_model.specs.Sources.{AreAccepted};
-ghost use Rattle.obq_run.specs.Ends.{IfNotYet, IfReadFault, IfRefused, IfTooLong, IfUnrun, IsRefusal, IsRunEnd, IsRunFinish, IsRunRefusal, OnRan, OnWriteFault, line_of, status_of, unrun_cause};
+ghost use Rattle.obq_run.specs.Ends.{GetsLine, IfNotYet, IfReadFault, IfRefused, IfTooLong, IfUnrun, IsRefusal, IsRunEnd, IsRunFinish, IsRunRefusal, OnRan, OnWriteFault, line_of, status_of, unrun_cause};
+ghost use Rattle.obq_run.specs.Held.{IsFaultAt, IsTooLongAt, PathRose};
 ghost use Rattle.obq_run.specs.Runs.{IsEndOf, IsNotYetOf, IsRefusalOf, IsRunOf, NotYetCompletes, OnlyWrites, RunCompletes, RunsOf, StopsRun, one_ended};
 ghost use Rattle.obq_words.specs.Words.{AreInForm, names_of, paths_of};
 
@@ -20,14 +21,11 @@ use crate::journals::Journal;
 use crate::put_texts::{Unreadable, read_texts};
 use crate::texts::{write_cause, write_run};
 use obq_base::Report;
-use obq_front::SOURCE_LIMIT;
+use obq_base::limits::{DEFAULT_TURNS, SOURCE_LIMIT};
 use obq_io::{Files, Sink};
 use obq_lex::{LexRefused, lex};
 use obq_words::SiteWord;
 use std::alloc::Global;
-
-/// How many turns a thread has.
-pub const TURNS: u32 = 100_000;
 
 /// Why a source was not run.
 pub enum Unrun {
@@ -40,7 +38,7 @@ pub enum Unrun {
 fn run_source(alloc: Global, source: &[u8]) -> Result<Ran, Unrun>
     requires within { length source.now ≤ SOURCE_LIMIT }
     requires accepted { (trees : List Block) × AreAccepted (source.now ∷ []) trees }
-    ensures ran { IfOk result (λ r. IsEndOf (source.now ∷ []) TURNS r.journal (r.bytes.items ∷ []) one_ended) }
+    ensures ran { IfOk result (λ r. IsEndOf (source.now ∷ []) DEFAULT_TURNS r.journal (r.bytes.items ∷ []) one_ended) }
     ensures form { IfOk result (λ r. OnlyWrites source.now) }
     ensures unrun { IfErr result (λ why. IfUnrun why (StopsRun (source.now ∷ []) 0)) }
 {
@@ -54,7 +52,7 @@ fn run_source(alloc: Global, source: &[u8]) -> Result<Ran, Unrun>
         Err(Unreadable::At { token }) => return Err(Unrun::NotYet { token }),
         Err(Unreadable::NoMemory) => return Err(Unrun::NoMemory),
     };
-    match run_texts(alloc, &texts, TURNS) {
+    match run_texts(alloc, &texts, DEFAULT_TURNS) {
         Ok(ran) => Ok(ran),
         Err(_) => Err(Unrun::NoMemory),
     }
@@ -74,10 +72,10 @@ fn cause_of_unrun(unrun: Unrun) -> Cause
 fn run_files<F: Files>(alloc: Global, files: &mut F, sites: &[SiteWord]) -> Result<Ran, Cause>
     requires { AreInForm sites.now }
     ensures same { (n : List ℕ) → F.holds files.new n ≡ F.holds files.old n }
-    ensures ran { IfOk result (RunsOf (F.holds files.old) SOURCE_LIMIT (paths_of sites.now) TURNS) }
+    ensures ran { IfOk result (RunsOf (F.holds files.old) SOURCE_LIMIT (paths_of sites.now) DEFAULT_TURNS) }
     ensures only { IfErr result IsRunRefusal }
-    ensures read_fault { IfErr result (λ cause. IfReadFault cause (λ file. IsSomeAnd (slice_get (paths_of sites.now) file) (λ p. Rose (F.faults files.old p) (F.faults files.new p)))) }
-    ensures too_long { IfErr result (λ cause. IfTooLong cause (λ s. IsSomeAnd (slice_get (paths_of sites.now) s) (λ p. WhereTold (F.holds files.old p) (λ xs. SOURCE_LIMIT < length xs)))) }
+    ensures read_fault { IfErr result (λ cause. IfReadFault cause (IsFaultAt (F.holds files.old) SOURCE_LIMIT (PathRose (F.faults files.old) (F.faults files.new)) (paths_of sites.now))) }
+    ensures too_long { IfErr result (λ cause. IfTooLong cause (IsTooLongAt (F.holds files.old) SOURCE_LIMIT (paths_of sites.now))) }
     ensures refused { IfErr result (λ cause. IfRefused cause (IsRefusalOf (F.holds files.old) SOURCE_LIMIT (paths_of sites.now))) }
     ensures not_yet { IfErr result (λ cause. IfNotYet cause (IsNotYetOf (F.holds files.old) SOURCE_LIMIT (paths_of sites.now))) }
 {
@@ -103,8 +101,7 @@ pub fn refuse<E: Sink>(alloc: Global, err: &mut E, sites: &[SiteWord], cause: Ca
     ensures cause { result.cause ≡ cause }
     ensures status { result.status ≡ status_of cause }
     ensures no_journal { result.journal.entries ≡ [] }
-    ensures told { GetsPrefix (E.written err.old) (E.written err.new) (line_of (names_of sites.now) cause) }
-    ensures told_whole { Appends (E.written err.old) (E.written err.new) (line_of (names_of sites.now) cause) ⊎ Rose (E.faults err.old) (E.faults err.new) }
+    ensures told { GetsLine (E.written err.old) (E.written err.new) (Rose (E.faults err.old) (E.faults err.new)) (line_of (names_of sites.now) cause) }
 {
     let _ = write_cause(err, sites, &cause);
     End {
@@ -123,8 +120,7 @@ fn finish<O: Sink, E: Sink>(out: &mut O, err: &mut E, sites: &[SiteWord], ran: R
     ensures write_fault { OnWriteFault result.cause (Rose (O.faults out.old) (O.faults out.new)) }
     ensures only { IsRunFinish result.cause }
     ensures status { result.status ≡ status_of result.cause }
-    ensures told { GetsPrefix (E.written err.old) (E.written err.new) (line_of (names_of sites.now) result.cause) }
-    ensures told_whole { Appends (E.written err.old) (E.written err.new) (line_of (names_of sites.now) result.cause) ⊎ Rose (E.faults err.old) (E.faults err.new) }
+    ensures told { GetsLine (E.written err.old) (E.written err.new) (Rose (E.faults err.old) (E.faults err.new)) (line_of (names_of sites.now) result.cause) }
     ensures quiet { OnRan result.cause (err.new ≡ err.old) }
 {
     let Ran { journal, bytes } = ran;
@@ -161,26 +157,25 @@ pub fn run_sites<F: Files, O: Sink, E: Sink>(
 
     // Each cause comes only where it may.
     ensures only { IsRunEnd result.cause }
-    ensures read_fault { IfReadFault result.cause (λ file. IsSomeAnd (slice_get (paths_of sites.now) file) (λ p. Rose (F.faults files.old p) (F.faults files.new p))) }
-    ensures too_long { IfTooLong result.cause (λ s. IsSomeAnd (slice_get (paths_of sites.now) s) (λ p. WhereTold (F.holds files.old p) (λ xs. SOURCE_LIMIT < length xs))) }
+    ensures read_fault { IfReadFault result.cause (IsFaultAt (F.holds files.old) SOURCE_LIMIT (PathRose (F.faults files.old) (F.faults files.new)) (paths_of sites.now)) }
+    ensures too_long { IfTooLong result.cause (IsTooLongAt (F.holds files.old) SOURCE_LIMIT (paths_of sites.now)) }
     ensures refused { IfRefused result.cause (IsRefusalOf (F.holds files.old) SOURCE_LIMIT (paths_of sites.now)) }
     ensures not_yet { IfNotYet result.cause (IsNotYetOf (F.holds files.old) SOURCE_LIMIT (paths_of sites.now)) }
     ensures write_fault { OnWriteFault result.cause (Rose (O.faults out.old) (O.faults out.new)) }
 
     // The journal is a history of the sources, and what is written is its output.
-    ensures ran { OnRan result.cause ((text : List ℕ) × IsRunOf (F.holds files.old) SOURCE_LIMIT (names_of sites.now) (paths_of sites.now) TURNS result.journal text result.status
+    ensures ran { OnRan result.cause ((text : List ℕ) × IsRunOf (F.holds files.old) SOURCE_LIMIT (names_of sites.now) (paths_of sites.now) DEFAULT_TURNS result.journal text result.status
         × Appends (O.written out.old) (O.written out.new) text) }
-    ensures part { OnWriteFault result.cause ((text : List ℕ) × IsRunOf (F.holds files.old) SOURCE_LIMIT (names_of sites.now) (paths_of sites.now) TURNS result.journal text 0
+    ensures part { OnWriteFault result.cause ((text : List ℕ) × (ended : ℕ) × IsRunOf (F.holds files.old) SOURCE_LIMIT (names_of sites.now) (paths_of sites.now) DEFAULT_TURNS result.journal text ended
         × GetsPrefix (O.written out.old) (O.written out.new) text) }
     ensures status { result.status ≡ status_of result.cause }
-    ensures completes { RunCompletes (F.holds files.old) SOURCE_LIMIT (paths_of sites.now) (λ p. Rose (F.faults files.old p) (F.faults files.new p)) (Rose (O.faults out.old) (O.faults out.new)) result.cause }
-    ensures completes_not_yet { NotYetCompletes (F.holds files.old) SOURCE_LIMIT (paths_of sites.now) (λ p. Rose (F.faults files.old p) (F.faults files.new p)) (Rose (O.faults out.old) (O.faults out.new)) result.cause }
+    ensures completes { RunCompletes (F.holds files.old) SOURCE_LIMIT (paths_of sites.now) (PathRose (F.faults files.old) (F.faults files.new)) (Rose (O.faults out.old) (O.faults out.new)) result.cause }
+    ensures completes_not_yet { NotYetCompletes (F.holds files.old) SOURCE_LIMIT (paths_of sites.now) (PathRose (F.faults files.old) (F.faults files.new)) (Rose (O.faults out.old) (O.faults out.new)) result.cause }
 
     // A refusal writes nothing but its line.
     ensures unwritten { IsRefusal result.cause → out.new ≡ out.old }
     ensures no_journal { IsRefusal result.cause → result.journal.entries ≡ [] }
-    ensures told { GetsPrefix (E.written err.old) (E.written err.new) (line_of (names_of sites.now) result.cause) }
-    ensures told_whole { Appends (E.written err.old) (E.written err.new) (line_of (names_of sites.now) result.cause) ⊎ Rose (E.faults err.old) (E.faults err.new) }
+    ensures told { GetsLine (E.written err.old) (E.written err.new) (Rose (E.faults err.old) (E.faults err.new)) (line_of (names_of sites.now) result.cause) }
     ensures quiet { OnRan result.cause (err.new ≡ err.old) }
     ensures same { (n : List ℕ) → F.holds files.new n ≡ F.holds files.old n }
 {

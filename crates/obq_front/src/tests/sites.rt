@@ -3,7 +3,8 @@
 ghost use Rattle.std.specs.Prelude.{◌≡◌, ◌≤◌, IfOk, length};
 ghost use Rattle.obq_front.specs.Contents.{AllWithin, contents};
 
-use crate::{FrontRefused, Program, SOURCE_LIMIT, Source, front};
+use crate::{FrontRefused, Program, Source, front};
+use obq_base::limits::SOURCE_LIMIT;
 use obq_base::{Name, SourceFault};
 use std::alloc::{AllocError, Global};
 use std::test::Fail;

@@ -1,5 +1,6 @@
 use Rattle.std.proofs.Common.{List, [], arith, drop, length, subst, sym, ◌++◌, ◌+◌, ◌≡◌, ◌≤◌, ◌∷◌}
 use Rattle.std.proofs.Math.ListN.{drop_of_length-le}
+use Rattle.obq_base.specs.declared.limits.TheConstants.{SOURCE_LIMIT}
 use Rattle.obq_model.specs.Sources.{IsFirstRefused}
 use Rattle.obq_front.specs.Contents.{AllWithin, contents, names_of}
 use Rattle.obq_front.specs.Refusals.{IfRefused}
@@ -13,7 +14,7 @@ add-requires c =
     let i = c.loop-i.i in
     let source : Source = c.index-sources-i.result in
     let left : drop i sources ≡ source ∷ drop (i + 1) sources = one_left sources i source c.loop-i-test.true c.index-sources-i.is in
-    let within : AllWithin 1048576 (contents (source ∷ drop (i + 1) sources)) = subst (λ ss. AllWithin 1048576 (contents ss)) left (within_behind 1048576 i sources c.requires.within) in
+    let within : AllWithin SOURCE_LIMIT (contents (source ∷ drop (i + 1) sources)) = subst (λ ss. AllWithin SOURCE_LIMIT (contents ss)) left (within_behind SOURCE_LIMIT i sources c.requires.within) in
     within.0
 
 pub returns-in-Err-clause-refused : goal.returns-in-Err-clause-refused

@@ -1,4 +1,5 @@
 use Rattle.std.proofs.Common.{List, subst, sym, ℕ}
+use Rattle.obq_base.specs.declared.limits.TheConstants.{SOURCE_LIMIT}
 use Rattle.obq_io.specs.Causes.{Rose}
 use Rattle.obq_run.specs.Runs.{CheckCompletes}
 use Rattle.obq_words.specs.Words.{paths_of}
@@ -13,5 +14,5 @@ returns-in-Err-clause-completes g c =
     let Rises : List ℕ → Type 0 = λ p. Rose (files.faults c.args.files.now p) (files.faults c.check_files.new.files p) in
     let output : Type 0 = Rose (g.O.Sink.faults c.args.out.now) (g.O.Sink.faults c.args.out.now) in
     let why = c.in-Err.ensures in
-    let done : CheckCompletes holds 1048576 paths Rises output c.in-Err.cause = check_refused holds 1048576 paths Rises output c.in-Err.cause why.only why.read_fault why.too_long why.refused in
-    subst (λ cause. CheckCompletes holds 1048576 paths Rises output cause) (sym c.refuse.ensures.cause) done
+    let done : CheckCompletes holds SOURCE_LIMIT paths Rises output c.in-Err.cause = check_refused holds SOURCE_LIMIT paths Rises output c.in-Err.cause why.only why.read_fault why.too_long why.refused in
+    subst (λ cause. CheckCompletes holds SOURCE_LIMIT paths Rises output cause) (sym c.refuse.ensures.cause) done

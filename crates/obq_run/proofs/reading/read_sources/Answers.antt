@@ -1,6 +1,7 @@
 use Rattle.std.proofs.Common.{[], arith, drop, length, ◌≡◌, ◌≤◌}
 use Rattle.std.proofs.Math.ListN.{drop_of_length-le}
 use Rattle.std.proofs.lemmas.List.{append-nil}
+use Rattle.obq_base.specs.declared.limits.TheConstants.{SOURCE_LIMIT}
 use Rattle.obq_run.specs.Held.{AreHeld}
 use Rattle.obq_words.specs.Words.{paths_of}
 use Rattle.obq_run.proofs.reading.read_sources.Goals as goal
@@ -12,5 +13,5 @@ returns-clause-held g c =
     let i = c.loop-i.i in
     let past : length sites ≤ i = omega arith in
     let none : drop i sites ≡ [] = drop_of_length-le sites past in
-    let nothing : AreHeld holds 1048576 (paths_of (drop i sites)) [] = rw none tt in
+    let nothing : AreHeld holds SOURCE_LIMIT (paths_of (drop i sites)) [] = rw none tt in
     rw append-nil at (c.loop-i.invariant.held [] nothing)

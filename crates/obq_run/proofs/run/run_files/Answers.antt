@@ -1,4 +1,5 @@
 use Rattle.std.proofs.Common.{List, ap, arith, length, subst, sym, ℕ, ◌≡◌, ◌≤◌, ◌∙◌, ◌∷◌, []}
+use Rattle.obq_base.specs.declared.limits.TheConstants.{SOURCE_LIMIT}
 use Rattle.obq_base.specs.declared.trees.Block.{Block}
 use Rattle.obq_front.specs.Contents.{contents}
 use Rattle.obq_model.specs.Sources.{AreAccepted}
@@ -18,7 +19,7 @@ returns-in-Err-clause-not_yet g c = never_not_yet c.in-Err.cause _ c.in-Err.ensu
 
 pub index-requires : goal.index-requires
 index-requires g c =
-    let many : length c.in-Ok.sources.items ≡ length c.args.sites.now = as_many (g.F.Files.holds c.args.files.now) 1048576 c.args.sites.now c.in-Ok.sources.items c.in-Ok.ensures.held in
+    let many : length c.in-Ok.sources.items ≡ length c.args.sites.now = as_many (g.F.Files.holds c.args.files.now) SOURCE_LIMIT c.args.sites.now c.in-Ok.sources.items c.in-Ok.ensures.held in
     omega (arith, many, c.requires.some)
 
 pub run_source-requires-clause-within : goal.run_source-requires-clause-within
@@ -28,9 +29,9 @@ run_source-requires-clause-within g c =
     let items = c.in-Ok.sources.items in
     let bytes = c.index.result.now.bytes.items in
     let few : length items ≤ 1 = omega (arith, c.if-len-gt1.false, c.len.ensures) in
-    let one : contents items ≡ bytes ∷ [] = one_source holds 1048576 c.args.sites.now items c.index.result.now c.in-Ok.ensures.held c.requires.some few c.index.ensures in
-    let held : AreHeld holds 1048576 paths (bytes ∷ []) = subst (AreHeld holds 1048576 paths) one c.in-Ok.ensures.held in
-    subst (λ (s : List ℕ). length s ≤ 1048576) (sym c.deref.ensures.value) (one_within holds paths bytes held)
+    let one : contents items ≡ bytes ∷ [] = one_source holds SOURCE_LIMIT c.args.sites.now items c.index.result.now c.in-Ok.ensures.held c.requires.some few c.index.ensures in
+    let held : AreHeld holds SOURCE_LIMIT paths (bytes ∷ []) = subst (AreHeld holds SOURCE_LIMIT paths) one c.in-Ok.ensures.held in
+    subst (λ (s : List ℕ). length s ≤ SOURCE_LIMIT) (sym c.deref.ensures.value) (one_within holds paths bytes held)
 
 pub run_source-requires-clause-accepted : goal.run_source-requires-clause-accepted
 run_source-requires-clause-accepted g c =
@@ -39,7 +40,7 @@ run_source-requires-clause-accepted g c =
     let items = c.in-Ok.sources.items in
     let bytes = c.index.result.now.bytes.items in
     let few : length items ≤ 1 = omega (arith, c.if-len-gt1.false, c.len.ensures) in
-    let one : contents items ≡ bytes ∷ [] = one_source holds 1048576 c.args.sites.now items c.index.result.now c.in-Ok.ensures.held c.requires.some few c.index.ensures in
+    let one : contents items ≡ bytes ∷ [] = one_source holds SOURCE_LIMIT c.args.sites.now items c.index.result.now c.in-Ok.ensures.held c.requires.some few c.index.ensures in
     let is : contents items ≡ c.deref.result.now ∷ [] = one ∙ ap (λ s. s ∷ []) (sym c.deref.ensures.value) in
     subst (λ ss. (trees : List Block) × AreAccepted ss trees) is c.in-Ok.ensures.accepted
 
@@ -50,9 +51,9 @@ returns-in-Ok-run_source-clause-ran g c =
     let items = c.in-Ok.sources.items in
     let bytes = c.index.result.now.bytes.items in
     let few : length items ≤ 1 = omega (arith, c.if-len-gt1.false, c.len.ensures) in
-    let one : contents items ≡ bytes ∷ [] = one_source holds 1048576 c.args.sites.now items c.index.result.now c.in-Ok.ensures.held c.requires.some few c.index.ensures in
+    let one : contents items ≡ bytes ∷ [] = one_source holds SOURCE_LIMIT c.args.sites.now items c.index.result.now c.in-Ok.ensures.held c.requires.some few c.index.ensures in
     let is : contents items ≡ c.deref.result.now ∷ [] = one ∙ ap (λ s. s ∷ []) (sym c.deref.ensures.value) in
-    let held : AreHeld holds 1048576 paths (c.deref.result.now ∷ []) = subst (AreHeld holds 1048576 paths) is c.in-Ok.ensures.held in
+    let held : AreHeld holds SOURCE_LIMIT paths (c.deref.result.now ∷ []) = subst (AreHeld holds SOURCE_LIMIT paths) is c.in-Ok.ensures.held in
     record { source = c.deref.result.now; held = held; form = c.in-Ok-run_source.ensures.form; end = c.in-Ok-run_source.ensures.ran }
 
 pub returns-clause-not_yet : goal.returns-clause-not_yet
@@ -62,10 +63,10 @@ returns-clause-not_yet g c =
     let items = c.in-Ok.sources.items in
     let bytes = c.index.result.now.bytes.items in
     let few : length items ≤ 1 = omega (arith, c.if-len-gt1.false, c.len.ensures) in
-    let one : contents items ≡ bytes ∷ [] = one_source holds 1048576 c.args.sites.now items c.index.result.now c.in-Ok.ensures.held c.requires.some few c.index.ensures in
+    let one : contents items ≡ bytes ∷ [] = one_source holds SOURCE_LIMIT c.args.sites.now items c.index.result.now c.in-Ok.ensures.held c.requires.some few c.index.ensures in
     let is : contents items ≡ c.deref.result.now ∷ [] = one ∙ ap (λ s. s ∷ []) (sym c.deref.ensures.value) in
-    let held : AreHeld holds 1048576 paths (c.deref.result.now ∷ []) = subst (AreHeld holds 1048576 paths) is c.in-Ok.ensures.held in
+    let held : AreHeld holds SOURCE_LIMIT paths (c.deref.result.now ∷ []) = subst (AreHeld holds SOURCE_LIMIT paths) is c.in-Ok.ensures.held in
     let trees = c.in-Ok.ensures.accepted.0 in
     let accepted : AreAccepted (c.deref.result.now ∷ []) trees = subst (λ ss. AreAccepted ss trees) is c.in-Ok.ensures.accepted.1 in
-    subst (λ cause. IfNotYet cause (IsNotYetOf holds 1048576 paths)) (sym c.cause_of_unrun.ensures)
-    (unrun_not_yet holds 1048576 paths c.deref.result.now trees c.in-Err-run_source.unrun held accepted c.in-Err-run_source.ensures.unrun)
+    subst (λ cause. IfNotYet cause (IsNotYetOf holds SOURCE_LIMIT paths)) (sym c.cause_of_unrun.ensures)
+    (unrun_not_yet holds SOURCE_LIMIT paths c.deref.result.now trees c.in-Err-run_source.unrun held accepted c.in-Err-run_source.ensures.unrun)

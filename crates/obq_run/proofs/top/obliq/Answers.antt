@@ -1,4 +1,5 @@
 use Rattle.std.proofs.Common.{List, Ok, subst, sym, ℕ}
+use Rattle.obq_base.specs.declared.limits.TheConstants.{SOURCE_LIMIT}
 use Rattle.obq_io.specs.Causes.{Rose}
 use Rattle.obq_words.specs.declared.words.Order.TheVariants.{Check, Run}
 use Rattle.obq_words.specs.declared.words.SiteWord.{SiteWord}
@@ -29,9 +30,9 @@ returns-in-Ok-Run-clause-completes g c =
     let cause = c.run_sites.result.cause in
     let given : Answers words (Ok (Run c.in-Ok-Run.sites)) = subst (λ order. Answers words (Ok order)) c.in-Ok-Run.field-0-is c.in-Ok-Run.ensures in
     let sites : AreSites words c.in-Ok-Run.sites.items = given.2 in
-    let at_sites : RunCompletes holds 1048576 (paths_of c.in-Ok-Run.sites.items) Rises output cause =
-    subst (λ (s : List SiteWord). RunCompletes holds 1048576 (paths_of s) Rises output cause) c.deref.ensures.value c.run_sites.ensures.completes in
-    λ good run. subst (λ paths. RunCompletes holds 1048576 paths Rises output cause) sites.paths at_sites
+    let at_sites : RunCompletes holds SOURCE_LIMIT (paths_of c.in-Ok-Run.sites.items) Rises output cause =
+    subst (λ (s : List SiteWord). RunCompletes holds SOURCE_LIMIT (paths_of s) Rises output cause) c.deref.ensures.value c.run_sites.ensures.completes in
+    λ good run. subst (λ paths. RunCompletes holds SOURCE_LIMIT paths Rises output cause) sites.paths at_sites
 
 pub returns-in-Ok-Run-clause-completes_not_yet : goal.returns-in-Ok-Run-clause-completes_not_yet
 returns-in-Ok-Run-clause-completes_not_yet g c =
@@ -43,9 +44,9 @@ returns-in-Ok-Run-clause-completes_not_yet g c =
     let cause = c.run_sites.result.cause in
     let given : Answers words (Ok (Run c.in-Ok-Run.sites)) = subst (λ order. Answers words (Ok order)) c.in-Ok-Run.field-0-is c.in-Ok-Run.ensures in
     let sites : AreSites words c.in-Ok-Run.sites.items = given.2 in
-    let at_sites : NotYetCompletes holds 1048576 (paths_of c.in-Ok-Run.sites.items) Rises output cause =
-    subst (λ (s : List SiteWord). NotYetCompletes holds 1048576 (paths_of s) Rises output cause) c.deref.ensures.value c.run_sites.ensures.completes_not_yet in
-    λ good run. subst (λ paths. NotYetCompletes holds 1048576 paths Rises output cause) sites.paths at_sites
+    let at_sites : NotYetCompletes holds SOURCE_LIMIT (paths_of c.in-Ok-Run.sites.items) Rises output cause =
+    subst (λ (s : List SiteWord). NotYetCompletes holds SOURCE_LIMIT (paths_of s) Rises output cause) c.deref.ensures.value c.run_sites.ensures.completes_not_yet in
+    λ good run. subst (λ paths. NotYetCompletes holds SOURCE_LIMIT paths Rises output cause) sites.paths at_sites
 
 pub returns-in-Ok-Check-clause-completes_check : goal.returns-in-Ok-Check-clause-completes_check
 returns-in-Ok-Check-clause-completes_check g c =
@@ -57,6 +58,6 @@ returns-in-Ok-Check-clause-completes_check g c =
     let cause = c.check_sources.result.cause in
     let given : Answers words (Ok (Check c.in-Ok-Check.sites)) = subst (λ order. Answers words (Ok order)) c.in-Ok-Check.field-0-is c.in-Ok-Check.ensures in
     let sites : AreSites words c.in-Ok-Check.sites.items = given.2 in
-    let at_sites : CheckCompletes holds 1048576 (paths_of c.in-Ok-Check.sites.items) Rises output cause =
-    subst (λ (s : List SiteWord). CheckCompletes holds 1048576 (paths_of s) Rises output cause) c.deref-in-Ok-Check.ensures.value c.check_sources.ensures.completes in
-    λ good check. subst (λ paths. CheckCompletes holds 1048576 paths Rises output cause) sites.paths at_sites
+    let at_sites : CheckCompletes holds SOURCE_LIMIT (paths_of c.in-Ok-Check.sites.items) Rises output cause =
+    subst (λ (s : List SiteWord). CheckCompletes holds SOURCE_LIMIT (paths_of s) Rises output cause) c.deref-in-Ok-Check.ensures.value c.check_sources.ensures.completes in
+    λ good check. subst (λ paths. CheckCompletes holds SOURCE_LIMIT paths Rises output cause) sites.paths at_sites
