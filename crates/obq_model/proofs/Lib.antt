@@ -1,7 +1,9 @@
 pub mod Comments
 pub mod Contents
+pub mod Drafted
 pub mod Faults
 pub mod Readings
+pub mod Skips
 pub mod Spellings
 pub mod Uniqueness
 pub mod Widths

@@ -14,7 +14,9 @@ pub mod Maps
 pub mod Nodes
 pub mod Occurrences
 pub mod Opening
+pub mod Opened
 pub mod Output
+pub mod Procedures
 pub mod Put
 pub mod PutTexts
 pub mod Reading
@@ -22,6 +24,7 @@ pub mod Replay
 pub mod Resolved
 pub mod Scopes
 pub mod Shapes
+pub mod Skipped
 pub mod Sources
 pub mod Spans
 pub mod Step

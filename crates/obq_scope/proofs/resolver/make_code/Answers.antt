@@ -7,7 +7,7 @@ use Rattle.obq_scope.specs.declared.output.Output.{Output}
 use Rattle.obq_scope.specs.Coded.{coded_block, inner}
 use Rattle.obq_scope.specs.Emitted.{closed, emitted, next_number, opened}
 use Rattle.obq_scope.proofs.Coding.{codes_source}
-use Rattle.obq_scope.proofs.Standing.{resolves}
+use Rattle.obq_scope.proofs.Resolving.{resolves}
 use Rattle.obq_scope.proofs.resolver.make_code.Goals as goal
 
 pub returns : goal.returns
@@ -18,6 +18,6 @@ returns c =
     let number = rw (c.new.ensures, c.new-2.ensures) at c.in_ok-main.ensures.number in
     let coded : (coded_block (outermost c.args.source) [] tree (inner start)).output ≡ emitted c.args.source (draft_block (outermost c.args.source) [] tree) (opened start.output)
     = codes_source c.args.source tree (opened start.output) start.ahead (c.new-emitter.ensures.ahead ∙ c.requires.captured) in
-    resolves c.args.source tree (opened start.output) c.emit_body.new.emitter.output start.output.nodes _ c.requires.bound refl
+    resolves c.args.source tree (opened start.output) c.emit_body.new.emitter.output start.output.nodes _ c.requires.bound refl c.new-emitter.ensures.codes
     (ap (λ (s : Emitter). s.output) made ∙ ap (λ (z : Output). closed 0 0 start.output.nodes z) coded) refl
     (number ∙ ap (λ (z : Output). next_number c.args.source z) coded) refl
