@@ -1,5 +1,6 @@
 pub mod Builtins
 pub mod Cells
+pub mod CodeLaws
 pub mod CommandLine
 pub mod Config
 pub mod Depth
@@ -13,8 +14,8 @@ pub mod Located
 pub mod Maps
 pub mod Nodes
 pub mod Occurrences
-pub mod Opening
 pub mod Opened
+pub mod Opening
 pub mod Output
 pub mod Procedures
 pub mod Put
