@@ -2,6 +2,7 @@
 use Rattle.std.specs.Prelude.{List, None, Option, Some, [], length, map, slice_get, ℕ, ◌++◌, ◌<◌, ◌∷◌, ◌≡◌}
 use Rattle.obq_base.specs.declared.code.Code.{Code}
 use Rattle.obq_base.specs.declared.code.CodeNo.{CodeNo}
+use Rattle.obq_base.specs.declared.code.Node.{Node}
 use Rattle.obq_base.specs.declared.code.Slot.{Slot}
 use Rattle.obq_base.specs.declared.code.Slot.TheVariants as s
 use Rattle.obq_base.specs.declared.code.SourceCode.{SourceCode}
@@ -37,6 +38,11 @@ abbrev pub raised_texts : List Bytes
 raised_texts =
     map text_raised (arity ∷ array_index ∷ array_limit ∷ call_limit ∷ closure_limit ∷ compare_closure ∷ [])
     ++ exit_outside ∷ map text_raised (field_missing ∷ field_twice ∷ fork_limit ∷ int_divide ∷ int_overflow ∷ not_method ∷ not_serialized ∷ not_value ∷ not_variable ∷ is_protected ∷ text_limit ∷ text_range ∷ wrong_type ∷ [])
+
+-- the nodes of a code, none where there is no code
+abbrev pub nodes_of : Option Code → List Node
+nodes_of None = []
+nodes_of (Some code) = code.nodes
 
 -- a code stands under a number exactly where a procedure does, and is that procedure's
 abbrev pub IsCodeAt : (CodeNo → Option Proc) → CodeNo → Option Code → Type 0
