@@ -1,5 +1,5 @@
 -- What is said of slots, of built-ins and exceptions row by row, and of the codes of a whole program.
-use Rattle.std.specs.Prelude.{List, None, Option, Some, [], length, map, slice_get, ℕ, ◌++◌, ◌<◌, ◌∷◌, ◌≡◌}
+use Rattle.std.specs.Prelude.{List, None, Option, Some, [], drop, false, length, map, slice_get, suc, ℕ, ◌++◌, ◌<◌, ◌∷◌, ◌≡◌}
 use Rattle.obq_base.specs.declared.code.Code.{Code}
 use Rattle.obq_base.specs.declared.code.CodeNo.{CodeNo}
 use Rattle.obq_base.specs.declared.code.Node.{Node}
@@ -12,7 +12,8 @@ use Rattle.obq_model.specs.Terms.{Bytes, Exn, Raising, Term, Form, End}
 use Rattle.obq_model.specs.Exceptions.{arity, array_index, array_limit, call_limit, closure_limit, compare_closure, exit_outside, field_missing, field_twice, fork_limit, int_divide, int_overflow, is_protected, not_method, not_serialized, not_value, not_variable, text_limit, text_range, wrong_type}
 use Rattle.obq_model.specs.Procedures.{Proc, main_proc}
 use Rattle.obq_model.specs.Resolved.{IsNumbered, code_at}
-use Rattle.obq_model.specs.Scopes.{Outside}
+use Rattle.obq_model.specs.Put.{among}
+use Rattle.obq_model.specs.Scopes.{Outside, is_covered}
 
 -- the slot is one of the binders in force, of which there are so many, of the captures, of the members, or the source's writer
 abbrev pub IsWithin : Outside → (locals : ℕ) → Slot → Type 0
@@ -21,12 +22,17 @@ IsWithin o locals (s.Captured k) = k < length o.captured
 IsWithin o locals (s.Member k) = k < length o.members
 IsWithin o locals (s.Stdout source) = source ≡ o.source
 
--- it has this name
-abbrev pub HasName : Outside → (locals : List Bytes) → Slot → Bytes → Type 0
-HasName o locals (s.Local k) x = slice_get locals k ≡ Some x
-HasName o locals (s.Captured k) x = slice_get o.captured k ≡ Some x
-HasName o locals (s.Member k) x = slice_get o.members k ≡ Some x
-HasName o locals (s.Stdout source) x = Unit {0}
+-- the k-th of these names is this one, and no later one is
+abbrev pub IsLast : ℕ → Bytes → List Bytes → Type 0
+IsLast k x names = (slice_get names k ≡ Some x) × (among x (drop (suc k) names) ≡ false)
+
+-- it is the innermost binder of this name: the last of the code's own, else of the group, else of the captures; and none covers the name
+-- where it is the writer
+abbrev pub IsInnermost : Outside → (locals : List Bytes) → Slot → Bytes → Type 0
+IsInnermost o locals (s.Local k) x = IsLast k x locals
+IsInnermost o locals (s.Member k) x = (among x locals ≡ false) × IsLast k x o.members
+IsInnermost o locals (s.Captured k) x = (among x locals ≡ false) × (among x o.members ≡ false) × IsLast k x o.captured
+IsInnermost o locals (s.Stdout source) x = is_covered o locals x ≡ false
 
 -- the text that goes up
 abbrev pub text_raised : Term ℕ → Bytes

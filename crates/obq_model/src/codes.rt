@@ -8,7 +8,7 @@ ghost use Rattle.obq_base.specs.declared.trees.Block.{Block};
 ghost use Rattle.obq_base.specs.Tree.{BlockTree, ExprTree, ItemTree};
 ghost use Rattle.obq_tables.specs.Tables.{builtin_arguments, builtins, exceptions};
 ghost use Rattle.obq_model.specs.Builtins.{arity_of_builtin};
-ghost use Rattle.obq_model.specs.CodeLaws.{HasName, IsTable, IsWithin, raised_texts};
+ghost use Rattle.obq_model.specs.CodeLaws.{IsInnermost, IsTable, IsWithin, raised_texts};
 ghost use Rattle.obq_model.specs.Draft.{draft_block, draft_expr, draft_item};
 ghost use Rattle.obq_model.specs.Occurrences.{builtin_row, unbound};
 ghost use Rattle.obq_model.specs.Opened.{builtin_at, builtins_in_order, open_block};
@@ -30,9 +30,10 @@ pub fn terms_are_closed()
     ensures { (writer : ℕ) (tree : BlockTree) → unbound tree ≡ [] → (x : Bytes) → occurs x (block_term writer [] tree) ≡ false }
 {}
 
-/// A slot is among the binders in force, the captures or the members, and has its name there.
+/// A slot is among the binders in force, the captures or the members, and there it is the innermost
+/// binder of its name.
 pub fn slots_are_in_range()
-    ensures { (o : Outside) (locals : List Bytes) (x : Bytes) → IsWithin o (length locals) (slot_of o locals x) × HasName o locals (slot_of o locals x) x }
+    ensures { (o : Outside) (locals : List Bytes) (x : Bytes) → IsWithin o (length locals) (slot_of o locals x) × IsInnermost o locals (slot_of o locals x) x }
 {}
 
 /// Where the nodes of a block, an item or an expression end, by the numbers of children alone.

@@ -15,3 +15,4 @@ pub mod ActOrder
 pub mod Abroad
 pub mod Choices
 pub mod SpanEvents
+pub mod ReadBack
