@@ -8,12 +8,16 @@ pub mod Draft
 pub mod Effect
 pub mod Exceptions
 pub mod Forms
+pub mod Frames
 pub mod Grammar
 pub mod Journal
+pub mod JournalText
 pub mod Located
 pub mod Maps
+pub mod Naturality
 pub mod Nodes
 pub mod Occurrences
+pub mod OneCell
 pub mod Opened
 pub mod Opening
 pub mod Output
@@ -21,6 +25,7 @@ pub mod Procedures
 pub mod Put
 pub mod PutTexts
 pub mod Reading
+pub mod Refusals
 pub mod Replay
 pub mod Resolved
 pub mod Scopes
@@ -30,6 +35,7 @@ pub mod Sources
 pub mod Spans
 pub mod Step
 pub mod Store
+pub mod Substitution
 pub mod Syntax
 pub mod Terms
 pub mod Tokens

@@ -17,7 +17,7 @@ pub data Place : Type 0 where
   AtThread : ℕ → Place
   AtNames : Place
 
--- where an operation is done
+-- the place of each operation
 abbrev pub place_of : Operation ℕ → Place
 place_of (New cell after) = Here
 place_of (Get o x) = AtCell o
@@ -88,11 +88,11 @@ message from to = if from == to then [] else (from, to) ∷ []
 abbrev pub Trail : Type 0
 Trail = List ℕ × List Message
 
--- an activation at this site is entered; the innermost one is left, which sends a reply to the site around it
+-- an activation at this site is entered
 abbrev pub entered_at : ℕ → Trail → Trail
 entered_at site tr = (site ∷ tr.0, tr.1)
 
--- the innermost activation is left
+-- the innermost activation is left, which sends a reply to the site around it
 abbrev pub left_from : Trail → Trail
 left_from tr = (drop 1 tr.0, message (site_here tr.0) (site_here (drop 1 tr.0)) ++ tr.1)
 
@@ -132,7 +132,7 @@ thread_activations k t = elim (slice_get k.threads t) [ None ↦ 0 | Some state 
 abbrev pub with_more : {A : Type 0} → ℕ → ℕ → A → List A → List A
 with_more before after site xs = if nat_lt before after then xs ++ site ∷ [] else xs
 
--- after the pure steps and, at the focus u, the act of thread t, which is done at the site `there`
+-- after the pure steps of thread t, which lead to the term u, and its act, which is done at the site `there`
 abbrev pub after_act : Located → Config → ℕ → Term ℕ → Trail → (there : ℕ) → Located
 after_act l k t u tr there =
     let here : ℕ = site_here tr.0 in
@@ -213,10 +213,13 @@ located_opening trees =
       replies = [];
     }
 
--- the requests and replies of a program's journal
+-- the fold of a program's journal, from its opening with sites
+abbrev pub located_run : List BlockTree → (turns : ℕ) → List Entry → Option Located
+located_run trees turns entries = locate_from (length trees) turns (located_opening trees) entries
+
+-- the requests and replies of a program's journal: those of the fold, and the requests that wait at the end
 abbrev pub located_replay : List BlockTree → (turns : ℕ) → List Entry → Option Located
-located_replay trees turns entries =
-    option_map (with_waiting (length trees) turns) (locate_from (length trees) turns (located_opening trees) entries)
+located_replay trees turns entries = option_map (with_waiting (length trees) turns) (located_run trees turns entries)
 
 -- ---- the table of links
 

@@ -25,7 +25,7 @@ abbrev pub entered_held : Outcome → Bool
 entered_held (Acting ActKind.Call loc st (Form (Within o Held) parts)) = true
 entered_held outcome = false
 
--- the event of an act that is done at act a thread's term needs
+-- the event of an act of a thread whose term comes to this
 abbrev pub event_of : Config → ℕ → Act → Found ℕ → Event
 event_of k t a (Needs op fs) = record { thread = t; self = self_at no_self fs; act = a; took = entered_held (perform k t (self_at no_self fs) op) }
 event_of k t a found = record { thread = t; self = no_self; act = a; took = false }
@@ -60,7 +60,7 @@ abbrev pub is_on : List ActKind → ℕ → Act → Bool
 is_on [] o a = false
 is_on (kind ∷ kinds) o a = kind_same kind a.kind && a.loc == o || is_on kinds o a
 
--- a held span of t on o begins after it; ends before it
+-- a held span of t on o begins after it
 abbrev pub begins_hold : ℕ → ℕ → Event → Bool
 begins_hold t o e = e.thread == t && (is_on (ActKind.Call ∷ []) o e.act && e.took || is_on (ActKind.Again ∷ []) o e.act)
 
@@ -68,7 +68,7 @@ begins_hold t o e = e.thread == t && (is_on (ActKind.Call ∷ []) o e.act && e.t
 abbrev pub ends_hold : ℕ → ℕ → Event → Bool
 ends_hold t o e = e.thread == t && is_on (ActKind.Leave ∷ ActKind.GiveUp ∷ []) o e.act
 
--- a migration of o by t begins or ends with it
+-- a migration of o by t begins with it, inside a held span
 abbrev pub copies_self : ℕ → ℕ → Event → Bool
 copies_self t o e = e.thread == t && is_self same_loc e.self o && is_on (ActKind.Copy ∷ []) o e.act
 

@@ -16,3 +16,5 @@ pub mod Abroad
 pub mod Choices
 pub mod SpanEvents
 pub mod ReadBack
+pub mod JournalTexts
+pub mod Slips

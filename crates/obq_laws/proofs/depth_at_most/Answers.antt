@@ -1,4 +1,4 @@
-use Rattle.obq_laws.proofs.Reading.{depth_at_most}
+use Rattle.obq_model.proofs.Substitution.{depth_at_most}
 use Rattle.obq_laws.proofs.depth_at_most.Goals as goal
 
 pub returns : goal.returns

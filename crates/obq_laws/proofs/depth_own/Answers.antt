@@ -1,4 +1,4 @@
-use Rattle.obq_laws.proofs.Reading.{depth_own}
+use Rattle.obq_model.proofs.Substitution.{depth_own}
 use Rattle.obq_laws.proofs.depth_own.Goals as goal
 
 pub returns : goal.returns

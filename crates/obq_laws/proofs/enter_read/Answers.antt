@@ -1,4 +1,4 @@
-use Rattle.obq_laws.proofs.Reading.{enter_read}
+use Rattle.obq_model.proofs.Substitution.{enter_read}
 use Rattle.obq_laws.proofs.enter_read.Goals as goal
 
 pub returns : goal.returns

@@ -1,4 +1,4 @@
-use Rattle.obq_laws.proofs.Reading.{members_read}
+use Rattle.obq_model.proofs.Substitution.{members_read}
 use Rattle.obq_laws.proofs.members_read.Goals as goal
 
 pub returns : goal.returns

@@ -1,4 +1,4 @@
-use Rattle.obq_laws.proofs.Naturality.{map_find}
+use Rattle.obq_model.proofs.Naturality.{map_find}
 use Rattle.obq_laws.proofs.natural.Goals as goal
 
 pub returns : goal.returns

@@ -1,4 +1,4 @@
-use Rattle.obq_laws.proofs.NaturalCells.{map_again}
+use Rattle.obq_model.proofs.NaturalCells.{map_again}
 use Rattle.obq_laws.proofs.natural_again.Goals as goal
 
 pub returns : goal.returns

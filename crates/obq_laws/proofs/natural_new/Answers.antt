@@ -1,4 +1,4 @@
-use Rattle.obq_laws.proofs.NaturalCells.{map_after_new}
+use Rattle.obq_model.proofs.NaturalCells.{map_after_new}
 use Rattle.obq_laws.proofs.natural_new.Goals as goal
 
 pub returns : goal.returns

@@ -1,4 +1,4 @@
-use Rattle.obq_laws.proofs.PutCommute.{put_commute}
+use Rattle.obq_model.proofs.PutCommute.{put_commute}
 use Rattle.obq_laws.proofs.put_commute.Goals as goal
 
 pub returns : goal.returns

@@ -1,4 +1,4 @@
-use Rattle.obq_laws.proofs.Reading.{put_fresh}
+use Rattle.obq_model.proofs.Substitution.{put_fresh}
 use Rattle.obq_laws.proofs.put_fresh.Goals as goal
 
 pub returns : goal.returns

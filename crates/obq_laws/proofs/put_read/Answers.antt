@@ -1,4 +1,4 @@
-use Rattle.obq_laws.proofs.PutRead.{put_read}
+use Rattle.obq_model.proofs.PutRead.{put_read}
 use Rattle.obq_laws.proofs.put_read.Goals as goal
 
 pub returns : goal.returns

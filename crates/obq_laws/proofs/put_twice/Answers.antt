@@ -1,4 +1,4 @@
-use Rattle.obq_laws.proofs.PutTwice.{put_twice}
+use Rattle.obq_model.proofs.PutTwice.{put_twice}
 use Rattle.obq_laws.proofs.put_twice.Goals as goal
 
 pub returns : goal.returns
