@@ -78,8 +78,8 @@ refused_here i source left whole single.NoMemory h more = tt
 
 pub program_of : (i : ℕ) (sources : List Source) (made : Gathered) (program : Program) → drop i sources ≡ [] → program.names.items ≡ made.names.items → program.blocks.items ≡ made.blocks.items
     → program.codes ≡ made.parts.items → made.names.items ++ names_of (drop i sources) ≡ names_of sources
-    → Completes i (contents (drop i sources)) (contents sources) made.blocks.items made.parts.items → IsProgram sources program
-program_of i sources made program none names blocks codes named more =
+    → Completes i (contents (drop i sources)) (contents sources) made.blocks.items made.parts.items → AllWithin 1048576 (contents sources) → IsProgram sources program
+program_of i sources made program none names blocks codes named more within =
     let last : made.names.items ++ [] ≡ names_of sources = subst (λ ss. made.names.items ++ names_of ss ≡ names_of sources) none named in
     let over : Completes i [] (contents sources) made.blocks.items made.parts.items =
     subst (λ ss. Completes i (contents ss) (contents sources) made.blocks.items made.parts.items) none more in
@@ -87,6 +87,7 @@ program_of i sources made program none names blocks codes named more =
     let moved : AreAccepted (contents sources) program.blocks.items × AreResolved 0 program.blocks.items made.parts.items =
     subst (λ x. AreAccepted (contents sources) x × AreResolved 0 x made.parts.items) (sym blocks) both in
     record {
+      within = within;
       names = names ∙ (sym (append-nil made.names.items) ∙ last);
       accepted = moved.0;
       resolved = subst (λ y. AreResolved 0 program.blocks.items y) (sym codes) moved.1;

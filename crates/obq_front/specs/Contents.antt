@@ -18,8 +18,9 @@ abbrev pub AllWithin : ℕ → List (List ℕ) → Type 0
 AllWithin limit [] = Unit {0}
 AllWithin limit (source ∷ sources) = (length source ≤ limit) × AllWithin limit sources
 
--- the sources are accepted, and these are their names, their trees and the codes of these
+-- the sources are accepted, and these are their names, their trees and the codes of these, with a table of the procedures of each source
 pub record IsProgram (sources : List Source) (program : Program) : Type 0 where
+  pub within : AllWithin 1048576 (contents sources)
   pub names : program.names.items ≡ names_of sources
   pub accepted : AreAccepted (contents sources) program.blocks.items
   pub resolved : AreResolved 0 program.blocks.items program.codes

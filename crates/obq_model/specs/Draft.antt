@@ -1,4 +1,5 @@
--- The code of a tree before its procedures have numbers: its nodes in preorder, with the code of each procedure beside its node.
+-- The code of a tree before its procedures have numbers: its nodes in preorder. Beside the node of a procedure stand what its code knows,
+-- its tree and the draft of its body.
 use Rattle.std.specs.Prelude.{Bool, List, None, Option, Some, [], false, if◌then◌else◌, length, suc, true, ℕ, ◌++◌, ◌∷◌}
 use Rattle.obq_base.specs.declared.trees.Operator.{Operator}
 use Rattle.obq_base.specs.declared.code.Slot.{Slot}
@@ -15,14 +16,16 @@ mutual
     Plain : Node → Draft → Draft
     -- one behind the other
     Both : Draft → Draft → Draft
-    -- the slots that are captured, the number of parameters, the body; and what follows
-    Closure : List Slot → (params : ℕ) → (body : Draft) → Draft → Draft
-    Method : List Slot → (params : ℕ) → (body : Draft) → Draft → Draft
-    Group : List Slot → Members → Draft → Draft
+    -- the slots that are captured, what the code knows, its tree, and the draft of its body; and what follows
+    Closure : List Slot → Outside → ProcedureTree → (body : Draft) → Draft → Draft
+    Method : List Slot → Outside → ProcedureTree → (body : Draft) → Draft → Draft
+    -- the members' codes know the same
+    Group : List Slot → Outside → RecBindTrees → Members → Draft → Draft
 
+  -- the drafts of the bodies
   pub data Members : Type 0 where
     NoMembers : Members
-    AMember : (params : ℕ) → (body : Draft) → Members → Members
+    AMember : (body : Draft) → Members → Members
 
 -- how many there are
 abbrev pub count_items : ItemTrees → ℕ
@@ -79,9 +82,16 @@ abbrev pub call_node : Option ℕ → ℕ → Node
 call_node None args = n.Apply args
 call_node (Some row) args = n.Builtin row args
 
--- how many parameters a procedure has
+-- the parameters of a procedure, and its body
+abbrev pub params_of : ProcedureTree → List Bytes
+params_of (AProc params b place) = params
+
+abbrev pub body_of : ProcedureTree → BlockTree
+body_of (AProc params b place) = b
+
+-- how many parameters it has
 abbrev pub count_params : ProcedureTree → ℕ
-count_params (AProc params b place) = length params
+count_params p = length (params_of p)
 
 -- the names that a procedure captures
 abbrev pub captured_by : Outside → List Bytes → ProcedureTree → List Bytes
@@ -108,7 +118,8 @@ abbrev mutual
   draft_item o locals (LetItem bs place) = Plain (n.Let (count_binds bs)) (draft_binds o locals bs)
   draft_item o locals (VarItem bs place) = Plain (n.Var (count_binds bs)) (draft_binds o locals bs)
   draft_item o locals (LetRecItem bs place) =
-      Group (slots_of o locals (captured_by_group o locals bs)) (draft_members (inside o (member_names bs) (captured_by_group o locals bs)) bs) Done
+      Group (slots_of o locals (captured_by_group o locals bs)) (inside o (member_names bs) (captured_by_group o locals bs)) bs
+      (draft_members (inside o (member_names bs) (captured_by_group o locals bs)) bs) Done
   draft_item o locals (AssignItem x e place) = Plain (n.Assign (slot_of o locals x)) (draft_expr o locals e)
   draft_item o locals (FieldItem e x body place) = Plain (n.SetField x) (Both (draft_expr o locals e) (draft_field o locals body))
   draft_item o locals (IndexItem a i e place) = Plain n.SetItem (Both (draft_expr o locals a) (Both (draft_expr o locals i) (draft_expr o locals e)))
@@ -120,7 +131,7 @@ abbrev mutual
 
   pub draft_members : Outside → RecBindTrees → Members
   draft_members o NoRecBinds = NoMembers
-  draft_members o (ARecBind x p place bs) = AMember (count_params p) (draft_body o p) (draft_members o bs)
+  draft_members o (ARecBind x p place bs) = AMember (draft_body o p) (draft_members o bs)
 
   pub draft_body : Outside → ProcedureTree → Draft
   draft_body o (AProc params b place) = draft_block o params b
@@ -128,7 +139,7 @@ abbrev mutual
   pub draft_field : Outside → List Bytes → FieldTree → Draft
   draft_field o locals (ValueOf e) = draft_expr o locals e
   draft_field o locals (MethodOf p) =
-      Method (slots_of o locals (captured_by o locals p)) (count_params p) (draft_body (inside o [] (captured_by o locals p)) p) Done
+      Method (slots_of o locals (captured_by o locals p)) (inside o [] (captured_by o locals p)) p (draft_body (inside o [] (captured_by o locals p)) p) Done
   draft_field o locals (AliasOf x e place) = Plain (n.Alias x) (draft_expr o locals e)
 
   pub draft_expr : Outside → List Bytes → ExprTree → Draft
@@ -138,7 +149,7 @@ abbrev mutual
   draft_expr o locals (OkTree place) = Plain n.Okay Done
   draft_expr o locals (NameTree x place) = Plain (n.Use (slot_of o locals x)) Done
   draft_expr o locals (ProcTree p) =
-      Closure (slots_of o locals (captured_by o locals p)) (count_params p) (draft_body (inside o [] (captured_by o locals p)) p) Done
+      Closure (slots_of o locals (captured_by o locals p)) (inside o [] (captured_by o locals p)) p (draft_body (inside o [] (captured_by o locals p)) p) Done
   draft_expr o locals (ArrayTree es place) = Plain (n.Array (count_exprs es)) (draft_exprs o locals es)
   draft_expr o locals (ObjectTree flags fs place) = Plain (n.Object flags (field_names fs)) (draft_fields o locals fs)
   draft_expr o locals (IfTree arms last place) = Plain (n.If (count_arms arms) (has_block last)) (Both (draft_arms o locals arms) (draft_maybe o locals last))

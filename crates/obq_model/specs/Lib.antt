@@ -1,5 +1,6 @@
 pub mod Builtins
 pub mod Cells
+pub mod CodeLaws
 pub mod CommandLine
 pub mod Config
 pub mod Depth
@@ -17,8 +18,10 @@ pub mod Naturality
 pub mod Nodes
 pub mod Occurrences
 pub mod OneCell
+pub mod Opened
 pub mod Opening
 pub mod Output
+pub mod Procedures
 pub mod Put
 pub mod PutTexts
 pub mod Reading
@@ -27,6 +30,7 @@ pub mod Replay
 pub mod Resolved
 pub mod Scopes
 pub mod Shapes
+pub mod Skipped
 pub mod Sources
 pub mod Spans
 pub mod Step

@@ -10,7 +10,7 @@ use Rattle.obq_base.specs.Tree.{BlockTree, BlockOf, MaybeBlock, NoBlock, ABlock,
 use Rattle.obq_model.specs.Put.{among}
 use Rattle.obq_model.specs.Scopes.{last_place}
 use Rattle.obq_model.specs.Occurrences.{bind_names, block_names, free_arms, free_binds, free_block, free_expr, free_exprs, free_field, free_fields, free_item, free_items, free_links, free_maybe, free_members, free_procedure, free_suffix, free_suffixes, is_called, item_names, member_names, occurrence}
-use Rattle.obq_names.specs.declared.walk.Walk.{Walk}
+use Rattle.obq_names.specs.declared.walker.Walker.{Walker}
 use Rattle.obq_names.specs.Captures.{captures_arms, captures_binds, captures_block, captures_body, captures_expr, captures_exprs, captures_field, captures_fields, captures_item, captures_items, captures_links, captures_maybe, captures_members, captures_suffix, captures_suffixes}
 use Rattle.obq_names.specs.Union.{covered_names, names_of, union}
 use Rattle.obq_names.specs.Walked.{entered, left, outer_of, truncated, walk_arms, walk_binds, walk_block, walk_body, walk_expr, walk_exprs, walk_field, walk_fields, walk_item, walk_items, walk_links, walk_maybe, walk_members, walk_suffix, walk_suffixes, with_all_outer, with_binders, with_use}
@@ -19,15 +19,15 @@ use Rattle.obq_names.proofs.Unions.{Names, among-append, filter_union, union-app
 use Rattle.obq_names.proofs.Uses.{all_outer, is_outer, no_place, outer_place, own_place}
 
 -- a walk inside a procedure with these binders outside of it and of its own
-abbrev state : (outer own names : Names) → List Occurrence → List Names → Walk
+abbrev state : (outer own names : Names) → List Occurrence → List Names → Walker
 state outer own names found captures = record { bound = outer ++ own; base = length outer; names = names; found = found; captures = captures }
 
 -- of the free occurrences `us`, by the procedure's own binders, those with a binder outside are put in; without any binder are `vs`
-record Moves (f : Walk → Walk) (outer own last : Names) (us vs : List Occurrence) (cs : List Names) : Type 0 where
+record Moves (f : Walker → Walker) (outer own last : Names) (us vs : List Occurrence) (cs : List Names) : Type 0 where
   moves : (names : Names) (found : List Occurrence) (captures : List Names)
       → f (state outer own names found captures) ≡ state outer last (union names (covered_names outer us)) (found ++ vs) (captures ++ cs)
 
-abbrev walk : Names → ℕ → Names → List Occurrence → List Names → Walk
+abbrev walk : Names → ℕ → Names → List Occurrence → List Names → Walker
 walk b n x f c = record { bound = b; base = n; names = x; found = f; captures = c }
 
 alike : (n : ℕ) (b b2 x x2 : Names) (f f2 : List Occurrence) (c c2 : List Names) → b ≡ b2 → x ≡ x2 → f ≡ f2 → c ≡ c2 → walk b n x f c ≡ walk b2 n x2 f2 c2
@@ -37,7 +37,7 @@ alike n b b2 x x2 f f2 c c2 e g h k =
 covered-append : (outer : Names) (us vs : List Occurrence) → covered_names outer (us ++ vs) ≡ covered_names outer us ++ covered_names outer vs
 covered-append outer us vs = ap (λ (l : Names). filter (λ x. among x outer) l) (map-append (λ (u : Occurrence). u.name) us vs) ∙ filter-append (λ x. among x outer) (names_of us) (names_of vs)
 
-both : {f g : Walk → Walk} {outer a b c : Names} {us us2 vs vs2 : List Occurrence} {cs cs2 : List Names}
+both : {f g : Walker → Walker} {outer a b c : Names} {us us2 vs vs2 : List Occurrence} {cs cs2 : List Names}
     → Moves f outer a b us vs cs → Moves g outer b c us2 vs2 cs2 → Moves (λ w. g (f w)) outer a c (us ++ us2) (vs ++ vs2) (cs ++ cs2)
 both {f} {g} {outer} {a} {b} {c} {us} {us2} {vs} {vs2} {cs} {cs2} m n = record {
   moves = λ names found captures.
@@ -51,33 +51,33 @@ nothing : (outer own : Names) → Moves (λ w. w) outer own own [] [] []
 nothing outer own = record { moves = λ names found captures. alike (length outer) _ _ _ _ _ _ _ _ refl refl (sym (append-nil found)) (sym (append-nil captures)) }
 
 -- where the last binders are spelled in another way
-ending : {f : Walk → Walk} {outer own last last2 : Names} {us vs : List Occurrence} {cs : List Names} → last ≡ last2 → Moves f outer own last us vs cs → Moves f outer own last2 us vs cs
+ending : {f : Walker → Walker} {outer own last last2 : Names} {us vs : List Occurrence} {cs : List Names} → last ≡ last2 → Moves f outer own last us vs cs → Moves f outer own last2 us vs cs
 ending {f} {outer} {own} {last} {last2} {us} {vs} {cs} e m = subst (λ (z : Names). Moves f outer own z us vs cs) e m
 
 -- where the free occurrences are spelled in another way
-of_names : {f : Walk → Walk} {outer own last : Names} {us us2 vs : List Occurrence} {cs : List Names} → us ≡ us2 → Moves f outer own last us vs cs → Moves f outer own last us2 vs cs
+of_names : {f : Walker → Walker} {outer own last : Names} {us us2 vs : List Occurrence} {cs : List Names} → us ≡ us2 → Moves f outer own last us vs cs → Moves f outer own last us2 vs cs
 of_names {f} {outer} {own} {last} {us} {us2} {vs} {cs} e m = subst (λ (z : List Occurrence). Moves f outer own last z vs cs) e m
 
 -- what follows is under more binders
-deeper : {f : Walk → Walk} {outer last : Names} {us : List Occurrence} (own names : Names) (free : Names → List Occurrence) (captures : Names → List Names)
+deeper : {f : Walker → Walker} {outer last : Names} {us : List Occurrence} (own names : Names) (free : Names → List Occurrence) (captures : Names → List Names)
     → Moves f outer (own ++ names) last us (free (outer ++ (own ++ names))) (captures (outer ++ (own ++ names)))
     → Moves f outer (own ++ names) last us (free (outer ++ own ++ names)) (captures (outer ++ own ++ names))
 deeper {f} {outer} {last} {us} own names free captures m = subst (λ (z : Names). Moves f outer (own ++ names) last us (free z) (captures z)) (sym (append_assoc outer own names)) m
 
-binds_first : {f : Walk → Walk} {outer own last : Names} {us vs : List Occurrence} {cs : List Names} (names : Names)
+binds_first : {f : Walker → Walker} {outer own last : Names} {us vs : List Occurrence} {cs : List Names} (names : Names)
     → Moves f outer (own ++ names) last us vs cs → Moves (λ w. f (with_binders names w)) outer own last us vs cs
 binds_first {f} {outer} {own} names m = record {
   moves = λ xs found captures. ap f (alike (length outer) _ _ _ _ _ _ _ _ (append_assoc outer own names) refl refl refl) ∙ m.moves xs found captures;
 }
 
-binds_last : {f : Walk → Walk} {outer own last : Names} {us vs : List Occurrence} {cs : List Names} (names : Names)
+binds_last : {f : Walker → Walker} {outer own last : Names} {us vs : List Occurrence} {cs : List Names} (names : Names)
     → Moves f outer own last us vs cs → Moves (λ w. with_binders names (f w)) outer own (last ++ names) us vs cs
 binds_last {f} {outer} {own} {last} names m = record {
   moves = λ xs found captures. ap (with_binders names) (m.moves xs found captures) ∙ alike (length outer) _ _ _ _ _ _ _ _ (append_assoc outer last names) refl refl refl;
 }
 
 -- names are in force up to the end of a block
-closes : {f : Walk → Walk} {outer : Names} (own names : Names) {us vs : List Occurrence} {cs : List Names}
+closes : {f : Walker → Walker} {outer : Names} (own names : Names) {us vs : List Occurrence} {cs : List Names}
     → Moves f outer own (own ++ names) us vs cs → Moves (λ w. truncated (length w.bound) (f w)) outer own own us vs cs
 closes {f} {outer} own names m = record {
   moves = λ xs found captures.
@@ -138,16 +138,16 @@ goes_up outer own names us =
     ∙ ap (λ (l : Names). union names l) (sym (outer_covered outer own us))
 
 -- a procedure inside another one
-frame : {f : Walk → Walk} {outer own last : Names} {us : List Occurrence} (free : Names → List Occurrence) (captures : Names → List Names)
+frame : {f : Walker → Walker} {outer own last : Names} {us : List Occurrence} (free : Names → List Occurrence) (captures : Names → List Names)
     → Moves f (outer ++ own) [] last us (free (outer ++ own ++ [])) (captures (outer ++ own ++ []))
     → Moves (λ w. left (outer_of w) (f (entered w))) outer own own (besides own us) (free (outer ++ own)) (union [] (covered_names (outer ++ own) us) ∷ captures (outer ++ own))
 frame {f} {outer} {own} {last} {us} free caps m = record {
   moves = λ names found captures.
-      let w : Walk = state outer own names found captures in
+      let w : Walker = state outer own names found captures in
       let b : Names = outer ++ own in
       let inner : Names = union [] (covered_names b us) in
       let top : take (length b) (b ++ last) ≡ b = take-append_seam b last in
-      ap (λ (v : Walk). left (outer_of w) (f v)) (alike (length b) _ _ _ _ _ _ _ _ (sym (append-nil b)) refl refl refl)
+      ap (λ (v : Walker). left (outer_of w) (f v)) (alike (length b) _ _ _ _ _ _ _ _ (sym (append-nil b)) refl refl refl)
       ∙ ap (left (outer_of w)) (m.moves [] found (captures ++ [] ∷ []))
       ∙ alike (length outer) _ _ _ _ _ _ _ _ top
       (ap (λ (z : Names). with_all_outer z (length outer) names inner) top ∙ goes_up outer own names us)
@@ -279,9 +279,9 @@ mutual
   walks_fields a b (AField x body place fs) = both (walks_field a b body) (walks_fields a b fs)
 
 -- the walk over the block of a source
-pub walks_source : (tree : BlockTree) (w : Walk) → w.bound ≡ [] → w.base ≡ 0 → w.names ≡ [] → w.found ≡ [] → w.captures ≡ []
+pub walks_source : (tree : BlockTree) (w : Walker) → w.bound ≡ [] → w.base ≡ 0 → w.names ≡ [] → w.found ≡ [] → w.captures ≡ []
     → ((walk_block tree w).found ≡ free_block [] tree) × ((walk_block tree w).captures ≡ captures_block [] tree)
 walks_source tree w e g h k l =
     let m : Moves (walk_block tree) [] [] [] (free_block [] tree) (free_block [] tree) (captures_block [] tree) = walks_block [] [] tree in
     let start : w ≡ state [] [] [] [] [] = rw (e, g, h, k, l) refl in
-    (ap (λ (v : Walk). (walk_block tree v).found) start ∙ ap (λ (v : Walk). v.found) (m.moves [] [] []), ap (λ (v : Walk). (walk_block tree v).captures) start ∙ ap (λ (v : Walk). v.captures) (m.moves [] [] []))
+    (ap (λ (v : Walker). (walk_block tree v).found) start ∙ ap (λ (v : Walker). v.found) (m.moves [] [] []), ap (λ (v : Walker). (walk_block tree v).captures) start ∙ ap (λ (v : Walker). v.captures) (m.moves [] [] []))

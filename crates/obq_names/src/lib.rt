@@ -6,8 +6,8 @@ mod binders;
 mod members;
 mod names;
 mod places;
-mod search;
 mod walk;
+mod walker;
 
 pub use binders::Binders;
 pub use members::push_members;

@@ -5,8 +5,8 @@ ghost use Rattle.obq_base.specs.View.{block_tree};
 ghost use Rattle.obq_model.specs.Occurrences.{free_block};
 ghost use Rattle.obq_names.specs.Captures.{captures_block};
 
-use crate::search::walk_block;
-use crate::walk::Walk;
+use crate::walk::walk_block;
+use crate::walker::Walker;
 use obq_base::{Block, Name, NoMemory, Occurrence};
 use sqlite_items::Items;
 use std::alloc::Global;
@@ -26,13 +26,13 @@ pub fn find_names(alloc: Global, block: &Block) -> Result<Names, NoMemory>
     ensures free { IfOk result (λ names. names.free ≡ free_block [] (block_tree block.now)) }
     ensures captures { IfOk result (λ names. names.captures ≡ captures_block [] (block_tree block.now)) }
 {
-    let mut walk = Walk::new(alloc);
-    walk_block(alloc, &mut walk, block)?;
-    let Walk {
+    let mut walker = Walker::new(alloc);
+    walk_block(alloc, &mut walker, block)?;
+    let Walker {
         found,
         captures,
         ..
-    } = walk;
+    } = walker;
     Ok(Names {
         free: found,
         captures,

@@ -15,5 +15,6 @@ pub mod ActOrder
 pub mod Abroad
 pub mod Choices
 pub mod SpanEvents
+pub mod ReadBack
 pub mod JournalTexts
 pub mod Slips

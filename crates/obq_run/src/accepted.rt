@@ -1,11 +1,7 @@
 //! Sources that are read and examined.
 
 ghost use Rattle.std.specs.Prelude.{◌≡◌, ◌<◌, ◌≤◌, IfErr, IfOk, List, length, ℕ};
-ghost use Rattle.obq_base.specs.declared.trees.Block.{Block};
-ghost use Rattle.obq_front.specs.Contents.{contents};
-
-
-ghost use Rattle.obq_model.specs.Sources.{AreAccepted};
+ghost use Rattle.obq_front.specs.Contents.{IsProgram, contents};
 ghost use Rattle.obq_run.specs.Ends.{IfReadFault, IfRefused, IfTooLong, IsCheckRefusal, refusal_cause, stop_cause};
 ghost use Rattle.obq_run.specs.Held.{AreHeld, IsFaultAt, IsTooLongAt, PathRose};
 ghost use Rattle.obq_run.specs.Runs.{IsRefusalOf};
@@ -14,7 +10,7 @@ ghost use Rattle.obq_words.specs.Words.{paths_of};
 use crate::ends::Cause;
 use crate::reading::{Stopped, read_sources};
 use obq_base::limits::SOURCE_LIMIT;
-use obq_front::{FrontRefused, Source, front};
+use obq_front::{FrontRefused, Program, Source, front};
 use obq_io::{Files, Unread};
 use obq_words::SiteWord;
 use std::alloc::Global;
@@ -42,16 +38,23 @@ fn cause_of_refusal(refused: FrontRefused) -> Cause
     }
 }
 
+/// Sources that are accepted, and the program that they give.
+#[derive(Drop)]
+pub struct Accepted {
+    pub sources: Vec<Source>,
+    pub program: Program,
+}
+
 /// Reads the sources of the sites, all before the first is examined, and examines them.
 pub fn accepted_sources<F: Files>(
     alloc: Global,
     files: &mut F,
     sites: &[SiteWord],
-) -> Result<Vec<Source>, Cause>
+) -> Result<Accepted, Cause>
     requires { length sites.now ≤ 16 }
     ensures same { (n : List ℕ) → F.holds files.new n ≡ F.holds files.old n }
-    ensures held { IfOk result (λ sources. AreHeld (F.holds files.old) SOURCE_LIMIT (paths_of sites.now) (contents sources.items)) }
-    ensures accepted { IfOk result (λ sources. (trees : List Block) × AreAccepted (contents sources.items) trees) }
+    ensures held { IfOk result (λ accepted. AreHeld (F.holds files.old) SOURCE_LIMIT (paths_of sites.now) (contents accepted.sources.items)) }
+    ensures program { IfOk result (λ accepted. IsProgram accepted.sources.items accepted.program) }
     ensures only { IfErr result IsCheckRefusal }
     ensures read_fault { IfErr result (λ cause. IfReadFault cause (IsFaultAt (F.holds files.old) SOURCE_LIMIT (PathRose (F.faults files.old) (F.faults files.new)) (paths_of sites.now))) }
     ensures too_long { IfErr result (λ cause. IfTooLong cause (IsTooLongAt (F.holds files.old) SOURCE_LIMIT (paths_of sites.now))) }
@@ -62,7 +65,7 @@ pub fn accepted_sources<F: Files>(
         Err(stopped) => return Err(cause_of_stop(stopped)),
     };
     match front(alloc, &sources) {
-        Ok(_program) => Ok(sources),
+        Ok(program) => Ok(Accepted { sources, program }),
         Err(refused) => Err(cause_of_refusal(refused)),
     }
 }

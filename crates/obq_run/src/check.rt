@@ -31,7 +31,7 @@ fn check_files<F: Files>(alloc: Global, files: &mut F, sites: &[SiteWord]) -> Re
     ensures refused { IfErr result (λ cause. IfRefused cause (IsRefusalOf (F.holds files.old) SOURCE_LIMIT (paths_of sites.now))) }
 {
     match accepted_sources(alloc, files, sites) {
-        Ok(_sources) => Ok(()),
+        Ok(_accepted) => Ok(()),
         Err(cause) => Err(cause),
     }
 }

@@ -79,17 +79,17 @@ fn run_files<F: Files>(alloc: Global, files: &mut F, sites: &[SiteWord]) -> Resu
     ensures refused { IfErr result (λ cause. IfRefused cause (IsRefusalOf (F.holds files.old) SOURCE_LIMIT (paths_of sites.now))) }
     ensures not_yet { IfErr result (λ cause. IfNotYet cause (IsNotYetOf (F.holds files.old) SOURCE_LIMIT (paths_of sites.now))) }
 {
-    let sources = match accepted_sources(alloc, files, sites) {
-        Ok(sources) => sources,
+    let accepted = match accepted_sources(alloc, files, sites) {
+        Ok(accepted) => accepted,
         Err(cause) => return Err(cause),
     };
-    if sources.len() > 1 {
+    if accepted.sources.len() > 1 {
         return Err(Cause::NotYet {
             source: 1,
             token: 0,
         });
     }
-    match run_source(alloc, &sources[0].bytes) {
+    match run_source(alloc, &accepted.sources[0].bytes) {
         Ok(ran) => Ok(ran),
         Err(unrun) => Err(cause_of_unrun(unrun)),
     }

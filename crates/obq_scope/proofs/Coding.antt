@@ -80,25 +80,25 @@ member o bound x p place bs out last after numbers m g = record {
 -- a `let rec`
 group : (o : Outside) (locals bound : Names) (bs : RecBindTrees) (out : Output) → Covers o locals bound
     → Group (inside o (member_names bs) (captured_by_group o locals bs)) bs (captures_members (bound ++ member_names bs) bs) out
-    (with_members o.source (length (captured_by_group o locals bs)) (draft_members (inside o (member_names bs) (captured_by_group o locals bs)) bs) out)
-    (member_numbers o.source (length (captured_by_group o locals bs)) (draft_members (inside o (member_names bs) (captured_by_group o locals bs)) bs) out)
+    (with_members o.source (length (captured_by_group o locals bs)) bs (draft_members (inside o (member_names bs) (captured_by_group o locals bs)) bs) out)
+    (member_numbers o.source (length (captured_by_group o locals bs)) bs (draft_members (inside o (member_names bs) (captured_by_group o locals bs)) bs) out)
     → Codes (λ s. onto (n.LetRec (coded_numbers (inside o (member_names bs) (captured o locals s)) bs (taken s)) (slots_of o locals (captured o locals s)))
     (coded_members (inside o (member_names bs) (captured o locals s)) bs (taken s)))
     (group_names bound bs ∷ captures_members (bound ++ member_names bs) bs) out
     (with_node
-    (n.LetRec (member_numbers o.source (length (slots_of o locals (captured_by_group o locals bs))) (draft_members (inside o (member_names bs) (captured_by_group o locals bs)) bs) out)
+    (n.LetRec (member_numbers o.source (length (slots_of o locals (captured_by_group o locals bs))) bs (draft_members (inside o (member_names bs) (captured_by_group o locals bs)) bs) out)
     (slots_of o locals (captured_by_group o locals bs)))
-    (with_members o.source (length (slots_of o locals (captured_by_group o locals bs))) (draft_members (inside o (member_names bs) (captured_by_group o locals bs)) bs) out))
+    (with_members o.source (length (slots_of o locals (captured_by_group o locals bs))) bs (draft_members (inside o (member_names bs) (captured_by_group o locals bs)) bs) out))
 group o locals bound bs out c g = record {
   codes = λ more.
       let names : Names = captured_by_group o locals bs in
       let start : Emitter = at out (captures_members (bound ++ member_names bs) bs ++ more) in
-      let last : ℕ → Emitter = λ k. onto (n.LetRec (member_numbers o.source k (draft_members (inside o (member_names bs) names) bs) out) (slots_of o locals names))
-      (at (with_members o.source k (draft_members (inside o (member_names bs) names) bs) out) more) in
+      let last : ℕ → Emitter = λ k. onto (n.LetRec (member_numbers o.source k bs (draft_members (inside o (member_names bs) names) bs) out) (slots_of o locals names))
+      (at (with_members o.source k bs (draft_members (inside o (member_names bs) names) bs) out) more) in
       ap (λ (z : Names). onto (n.LetRec (coded_numbers (inside o (member_names bs) z) bs start) (slots_of o locals z)) (coded_members (inside o (member_names bs) z) bs start))
       (captures_are o locals bound (free_members (member_names bs) bs) c)
       ∙ ap (λ (l : List CodeNo). onto (n.LetRec l (slots_of o locals names)) (coded_members (inside o (member_names bs) names) bs start)) (g.tells more)
-      ∙ ap (λ (v : Emitter). onto (n.LetRec (member_numbers o.source (length names) (draft_members (inside o (member_names bs) names) bs) out) (slots_of o locals names)) v) (g.codes more)
+      ∙ ap (λ (v : Emitter). onto (n.LetRec (member_numbers o.source (length names) bs (draft_members (inside o (member_names bs) names) bs) out) (slots_of o locals names)) v) (g.codes more)
       ∙ ap last (sym (length-map names (slot_of o locals)));
 }
 
@@ -185,7 +185,7 @@ mutual
   codes_binds o l b (ABind x e place bs) out c = both (codes_expr o l b e out c) (codes_binds o (l ++ x ∷ []) (b ++ x ∷ []) bs _ (covers_more o l b (x ∷ []) c))
 
   codes_members : (o : Outside) (bound : Names) (tree : RecBindTrees) (out : Output) → Covers o [] bound
-      → Group o tree (captures_members bound tree) out (with_members o.source (length o.captured) (draft_members o tree) out) (member_numbers o.source (length o.captured) (draft_members o tree) out)
+      → Group o tree (captures_members bound tree) out (with_members o.source (length o.captured) tree (draft_members o tree) out) (member_numbers o.source (length o.captured) tree (draft_members o tree) out)
   codes_members o b NoRecBinds out c = record { codes = λ more. refl; tells = λ more. refl }
   codes_members o b (ARecBind x p place bs) out c = member o b x p place bs out _ _ _ (codes_body o b p (opened out) c) (codes_members o b bs _ c)
 

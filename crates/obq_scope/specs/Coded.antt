@@ -150,6 +150,20 @@ abbrev mutual
   coded_fields o locals NoFields s = s
   coded_fields o locals (AField x body place fs) s = coded_fields o locals fs (coded_field o locals body s)
 
+-- the parts of a `for` or `foreach`
+abbrev pub for_parts : Outside → List Bytes → ExprTree → Emitter → Emitter
+for_parts o locals (ForTree x first last b place) s = coded_block o (locals ++ x ∷ []) b (coded_expr o locals last (coded_expr o locals first s))
+for_parts o locals (ForeachTree x e b place) s = coded_block o (locals ++ x ∷ []) b (coded_expr o locals e s)
+for_parts o locals e s = s
+
+-- the parts of an expression that has blocks
+abbrev pub control_parts : Outside → List Bytes → ExprTree → Emitter → Emitter
+control_parts o locals (IfTree arms last place) s = coded_maybe o locals last (coded_arms o locals arms s)
+control_parts o locals (LoopTree b place) s = coded_block o locals b s
+control_parts o locals (TryTree b arms last place) s = coded_maybe o locals last (coded_arms o locals arms (coded_block o locals b s))
+control_parts o locals (FinallyTree b last place) s = coded_block o locals last (coded_block o locals b s)
+control_parts o locals e s = for_parts o locals e s
+
 -- a `let rec`
 abbrev pub coded_group : Outside → List Bytes → RecBindTrees → Emitter → Emitter
 coded_group o locals bs s =

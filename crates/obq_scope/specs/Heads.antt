@@ -6,13 +6,13 @@ use Rattle.obq_base.specs.Tree.{ItemTree, LetItem, VarItem, LetRecItem, AssignIt
 use Rattle.obq_model.specs.Terms.{Bytes}
 use Rattle.obq_model.specs.Draft.{behind_first, call_node, called_row, count_arms, count_binds, count_exprs, count_suffixes, field_names, has_block, operators_of}
 use Rattle.obq_model.specs.Scopes.{Outside, slot_of}
-use Rattle.obq_scope.specs.declared.output.Output.{Output}
-use Rattle.obq_scope.specs.Emitted.{with_node}
+use Rattle.obq_scope.specs.declared.emitter.Emitter.{Emitter}
+use Rattle.obq_scope.specs.Coded.{onto}
 
 -- with this node, where there is one
-abbrev pub with_head : Option Node → Output → Output
-with_head None out = out
-with_head (Some a) out = with_node a out
+abbrev pub with_head : Option Node → Emitter → Emitter
+with_head None s = s
+with_head (Some a) s = onto a s
 
 -- how many suffixes have nodes of their own
 abbrev pub suffix_nodes : Option ℕ → SuffixTrees → ℕ

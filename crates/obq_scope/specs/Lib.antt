@@ -1,4 +1,5 @@
 pub mod Coded
+pub mod Coders
 pub mod Emitted
 pub mod Heads
 pub mod Refused

@@ -3,122 +3,114 @@
 ghost use Rattle.std.specs.Prelude.{◌≡◌, IfOk, OnOk};
 ghost use Rattle.obq_base.specs.View.{expr_tree, item_tree, suffix_tree, suffix_trees};
 ghost use Rattle.obq_model.specs.Draft.{call_node, called_row};
+ghost use Rattle.obq_scope.specs.Coders.{after};
 ghost use Rattle.obq_scope.specs.Heads.{expr_head, item_head, suffix_head, suffix_nodes, with_head};
 ghost use Rattle.obq_scope.specs.Seen.{seen};
 
+use crate::coder::Coder;
 use crate::counts::{
     arms_in, binds_in, names_in, operators_in, suffixes_behind, suffixes_in, values_in,
 };
-use crate::output::Output;
-use crate::outside::Outside;
 use crate::slots::{find_row, find_slot};
 use obq_base::{Expr, Item, NoMemory, Node, Suffix};
-use obq_names::Binders;
-use std::alloc::Global;
 
 /// Pushes the node that an item begins with, where it has one.
-pub fn push_item_head(
-    alloc: Global,
-    outside: &Outside,
-    locals: &Binders,
-    out: &mut Output,
-    item: &Item,
-) -> Result<(), NoMemory>
-    ensures { OnOk result (out.new ≡ with_head (item_head (seen outside.now) locals.now (item_tree item.now)) out.old) }
+pub fn push_item_head(coder: &mut Coder, item: &Item) -> Result<(), NoMemory>
+    ensures { OnOk result (coder.new ≡ after (λ o locals. with_head (item_head o locals (item_tree item.now))) coder.old) }
 {
     match item {
-        Item::Let { binds, .. } => out.push(Node::Let {
+        Item::Let { binds, .. } => coder.push(Node::Let {
             count: binds_in(binds.as_slice())?,
         }),
-        Item::Var { binds, .. } => out.push(Node::Var {
+        Item::Var { binds, .. } => coder.push(Node::Var {
             count: binds_in(binds.as_slice())?,
         }),
         Item::LetRec { .. } | Item::Plain(_) => Ok(()),
         Item::Assign { name, .. } => {
-            let slot = find_slot(outside, locals, name)?;
-            out.push(Node::Assign { slot })
+            let slot = find_slot(&coder.outside, &coder.locals, name)?;
+            coder.push(Node::Assign { slot })
         }
         Item::SetField { name, .. } => {
-            let name = name.copy(alloc)?;
-            out.push(Node::SetField { name })
+            let name = name.copy(coder.alloc)?;
+            coder.push(Node::SetField { name })
         }
-        Item::SetItem { .. } => out.push(Node::SetItem),
+        Item::SetItem { .. } => coder.push(Node::SetItem),
     }
 }
 
-/// How many suffixes have nodes of their own.
-fn suffix_nodes(
-    outside: &Outside,
-    locals: &Binders,
+/// The row of the built-in that such a head and suffixes call.
+pub fn find_called(
+    coder: &Coder,
     head: &Expr,
     suffixes: &[Suffix],
-) -> Result<u32, NoMemory>
-    ensures { IfOk result (λ n. n ≡ suffix_nodes (called_row (seen outside.now) locals.now (expr_tree head.now) (suffix_trees suffixes.now)) (suffix_trees suffixes.now)) }
+) -> Result<Option<u32>, NoMemory>
+    ensures { IfOk result (λ row. row ≡ called_row (seen coder.now.outside) coder.now.locals (expr_tree head.now) (suffix_trees suffixes.now)) }
 {
-    match find_row(outside, locals, head, suffixes)? {
+    find_row(&coder.outside, &coder.locals, head, suffixes)
+}
+
+/// How many suffixes have nodes of their own.
+fn suffix_nodes(coder: &Coder, head: &Expr, suffixes: &[Suffix]) -> Result<u32, NoMemory>
+    ensures { IfOk result (λ n. n ≡ suffix_nodes (called_row (seen coder.now.outside) coder.now.locals (expr_tree head.now) (suffix_trees suffixes.now)) (suffix_trees suffixes.now)) }
+{
+    match find_called(coder, head, suffixes)? {
         None => suffixes_in(suffixes),
         Some(_) => suffixes_behind(suffixes),
     }
 }
 
 /// Pushes the node that an expression begins with, where it has one.
-pub fn push_head(
-    alloc: Global,
-    outside: &Outside,
-    locals: &Binders,
-    out: &mut Output,
-    value: &Expr,
-) -> Result<(), NoMemory>
-    ensures { OnOk result (out.new ≡ with_head (expr_head (seen outside.now) locals.now (expr_tree value.now)) out.old) }
+pub fn push_head(coder: &mut Coder, value: &Expr) -> Result<(), NoMemory>
+    ensures { OnOk result (coder.new ≡ after (λ o locals. with_head (expr_head o locals (expr_tree value.now))) coder.old) }
 {
     match value {
-        Expr::Int { value, .. } => out.push(Node::Int { value: *value }),
+        Expr::Int { value, .. } => coder.push(Node::Int { value: *value }),
         Expr::Str { text, .. } => {
-            let bytes = text.copy(alloc)?;
-            out.push(Node::Str { bytes })
+            let bytes = text.copy(coder.alloc)?;
+            coder.push(Node::Str { bytes })
         }
-        Expr::Truth { value, .. } => out.push(Node::Truth { value: *value }),
-        Expr::Okay { .. } => out.push(Node::Okay),
+        Expr::Truth { value, .. } => coder.push(Node::Truth { value: *value }),
+        Expr::Okay { .. } => coder.push(Node::Okay),
         Expr::Use { name, .. } => {
-            let slot = find_slot(outside, locals, name)?;
-            out.push(Node::Use { slot })
+            let slot = find_slot(&coder.outside, &coder.locals, name)?;
+            coder.push(Node::Use { slot })
         }
         Expr::Procedure(_) => Ok(()),
-        Expr::Array { items, .. } => out.push(Node::Array {
+        Expr::Array { items, .. } => coder.push(Node::Array {
             items: values_in(items.as_slice())?,
         }),
         Expr::Object { flags, fields, .. } => {
-            let names = names_in(alloc, fields.as_slice())?;
-            out.push(Node::Object {
+            let names = names_in(coder.alloc, fields.as_slice())?;
+            coder.push(Node::Object {
                 flags: *flags,
                 names,
             })
         }
-        Expr::If { arms, last, .. } => out.push(Node::If {
+        Expr::If { arms, last, .. } => coder.push(Node::If {
             arms: arms_in(arms.as_slice())?,
             last: last.is_some(),
         }),
-        Expr::Loop { .. } => out.push(Node::Loop),
-        Expr::Exit { .. } => out.push(Node::Exit),
-        Expr::For { .. } => out.push(Node::For),
-        Expr::Foreach { .. } => out.push(Node::Foreach),
-        Expr::Try { arms, last, .. } => out.push(Node::Try {
+        Expr::Loop { .. } => coder.push(Node::Loop),
+        Expr::Exit { .. } => coder.push(Node::Exit),
+        Expr::For { .. } => coder.push(Node::For),
+        Expr::Foreach { .. } => coder.push(Node::Foreach),
+        Expr::Try { arms, last, .. } => coder.push(Node::Try {
             guards: arms_in(arms.as_slice())?,
             last: last.is_some(),
         }),
-        Expr::Finally { .. } => out.push(Node::Finally),
-        Expr::Raise { .. } => out.push(Node::Raise),
-        Expr::Watch { .. } => out.push(Node::Watch),
-        Expr::Redirect { .. } => out.push(Node::Redirect),
-        Expr::Clone { objects, .. } => out.push(Node::Clone {
+        Expr::Finally { .. } => coder.push(Node::Finally),
+        Expr::Raise { .. } => coder.push(Node::Raise),
+        Expr::Watch { .. } => coder.push(Node::Watch),
+        Expr::Redirect { .. } => coder.push(Node::Redirect),
+        Expr::Clone { objects, .. } => coder.push(Node::Clone {
             items: values_in(objects.as_slice())?,
         }),
         Expr::Chain { links, .. } => {
-            let operators = operators_in(alloc, links.as_slice())?;
-            out.push(Node::Chain { operators })
+            let operators = operators_in(coder.alloc, links.as_slice())?;
+            coder.push(Node::Chain { operators })
         }
-        Expr::Suffixed { head, suffixes } => out.push(Node::Suffixes {
-            count: suffix_nodes(outside, locals, head.get(), suffixes.as_slice())?,
+        Expr::Suffixed { head, suffixes } => coder.push(Node::Suffixes {
+            count: suffix_nodes(coder, head.get(), suffixes.as_slice())?,
         }),
     }
 }
@@ -136,33 +128,32 @@ fn call_node(row: Option<u32>, args: u32) -> Node
 /// Pushes the node that a suffix begins with. The row is that of the built-in that it calls, if it
 /// calls one.
 pub fn push_suffix_head(
-    alloc: Global,
-    out: &mut Output,
+    coder: &mut Coder,
     row: Option<u32>,
     suffix: &Suffix,
 ) -> Result<(), NoMemory>
-    ensures { OnOk result (out.new ≡ with_head (suffix_head row (suffix_tree suffix.now)) out.old) }
+    ensures { OnOk result (coder.new ≡ after (λ o locals. with_head (suffix_head row (suffix_tree suffix.now))) coder.old) }
 {
     match suffix {
         Suffix::Apply { arguments, .. } => {
             let args = values_in(arguments.as_slice())?;
-            out.push(call_node(row, args))
+            coder.push(call_node(row, args))
         }
         Suffix::Select { name, .. } => {
-            let name = name.copy(alloc)?;
-            out.push(Node::Select { name })
+            let name = name.copy(coder.alloc)?;
+            coder.push(Node::Select { name })
         }
         Suffix::Invoke {
             name,
             arguments,
             ..
         } => {
-            let name = name.copy(alloc)?;
-            out.push(Node::Invoke {
+            let name = name.copy(coder.alloc)?;
+            coder.push(Node::Invoke {
                 name,
                 args: values_in(arguments.as_slice())?,
             })
         }
-        Suffix::Index { .. } => out.push(Node::Index),
+        Suffix::Index { .. } => coder.push(Node::Index),
     }
 }

@@ -2,6 +2,7 @@
 #![tactic(auto)]
 
 mod ahead;
+mod coder;
 mod counts;
 mod emit;
 mod emitter;

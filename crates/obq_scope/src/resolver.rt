@@ -7,14 +7,14 @@ ghost use Rattle.obq_model.specs.Resolved.{Resolves};
 ghost use Rattle.obq_names.specs.Captures.{captures_block};
 ghost use Rattle.obq_scope.specs.Refused.{IfUnbound};
 
+use crate::coder::Coder;
 use crate::emit::emit_body;
 use crate::emitter::Emitter;
 use crate::output::Output;
-use crate::outside::Outside;
 use crate::refused::ScopeRefused;
 use crate::slots::find_builtin;
 use obq_base::{Block, Name, NoMemory, Occurrence, SourceCode};
-use obq_names::{Binders, Names, find_names};
+use obq_names::{Names, find_names};
 use sqlite_items::Items;
 use std::alloc::Global;
 
@@ -79,17 +79,11 @@ fn make_code(
     requires captured { captures ≡ captures_block [] (block_tree block.now) }
     ensures { IfOk result (λ made. Resolves source (block_tree block.now) made) }
 {
-    let outside = Outside {
-        source,
-        members: Binders::new(alloc),
-        captured: Binders::new(alloc),
-    };
-    let mut emitter = Emitter::new(alloc, captures);
-    let main = emit_body(alloc, &outside, &mut emitter, &[], block)?;
-    let Emitter {
-        output: Output { codes, nodes: _ },
-        ahead: _,
-    } = emitter;
+    let mut coder = Coder::new(alloc, source, captures);
+    let main = emit_body(&mut coder, &[], block)?;
+    let Coder { emitter, .. } = coder;
+    let Emitter { output, .. } = emitter;
+    let Output { codes, .. } = output;
     Ok(SourceCode {
         source,
         main,

@@ -54,4 +54,4 @@ returns-in-Ok-into_program-clause-accepted c =
     let past : length sources ≤ i = omega arith in
     let none : drop i sources ≡ [] = drop_of_length-le sources past in
     let found = c.in-Ok-into_program.ensures in
-    program_of i sources c.loop-i.gathered c.in-Ok-into_program.program none found.names found.blocks found.codes c.loop-i.invariant.names c.loop-i.invariant.completes
+    program_of i sources c.loop-i.gathered c.in-Ok-into_program.program none found.names found.blocks found.codes c.loop-i.invariant.names c.loop-i.invariant.completes c.requires.within

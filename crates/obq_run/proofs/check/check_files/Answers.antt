@@ -3,5 +3,5 @@ use Rattle.obq_run.proofs.check.check_files.Goals as goal
 
 pub returns-in-Ok-clause-accepted : goal.returns-in-Ok-clause-accepted
 returns-in-Ok-clause-accepted g c =
-    let accepted = c.in-Ok.ensures.accepted in
-    record { sources = contents c.in-Ok._sources.items; held = c.in-Ok.ensures.held; trees = accepted.0; accepted = accepted.1 }
+    let accepted = c.in-Ok._accepted in
+    record { sources = contents accepted.sources.items; held = c.in-Ok.ensures.held; trees = accepted.program.blocks.items; accepted = c.in-Ok.ensures.program.accepted }

@@ -19,14 +19,14 @@ returns-in-Err-clause-not_yet g c = never_not_yet c.in-Err.cause _ c.in-Err.ensu
 
 pub index-requires : goal.index-requires
 index-requires g c =
-    let many : length c.in-Ok.sources.items ≡ length c.args.sites.now = as_many (g.F.Files.holds c.args.files.now) SOURCE_LIMIT c.args.sites.now c.in-Ok.sources.items c.in-Ok.ensures.held in
+    let many : length c.in-Ok.accepted.sources.items ≡ length c.args.sites.now = as_many (g.F.Files.holds c.args.files.now) SOURCE_LIMIT c.args.sites.now c.in-Ok.accepted.sources.items c.in-Ok.ensures.held in
     omega (arith, many, c.requires.some)
 
 pub run_source-requires-clause-within : goal.run_source-requires-clause-within
 run_source-requires-clause-within g c =
     let holds = g.F.Files.holds c.args.files.now in
     let paths = paths_of c.args.sites.now in
-    let items = c.in-Ok.sources.items in
+    let items = c.in-Ok.accepted.sources.items in
     let bytes = c.index.result.now.bytes.items in
     let few : length items ≤ 1 = omega (arith, c.if-len-gt1.false, c.len.ensures) in
     let one : contents items ≡ bytes ∷ [] = one_source holds SOURCE_LIMIT c.args.sites.now items c.index.result.now c.in-Ok.ensures.held c.requires.some few c.index.ensures in
@@ -37,18 +37,18 @@ pub run_source-requires-clause-accepted : goal.run_source-requires-clause-accept
 run_source-requires-clause-accepted g c =
     let holds = g.F.Files.holds c.args.files.now in
     let paths = paths_of c.args.sites.now in
-    let items = c.in-Ok.sources.items in
+    let items = c.in-Ok.accepted.sources.items in
     let bytes = c.index.result.now.bytes.items in
     let few : length items ≤ 1 = omega (arith, c.if-len-gt1.false, c.len.ensures) in
     let one : contents items ≡ bytes ∷ [] = one_source holds SOURCE_LIMIT c.args.sites.now items c.index.result.now c.in-Ok.ensures.held c.requires.some few c.index.ensures in
     let is : contents items ≡ c.deref.result.now ∷ [] = one ∙ ap (λ s. s ∷ []) (sym c.deref.ensures.value) in
-    subst (λ ss. (trees : List Block) × AreAccepted ss trees) is c.in-Ok.ensures.accepted
+    subst (λ ss. (trees : List Block) × AreAccepted ss trees) is (c.in-Ok.accepted.program.blocks.items, c.in-Ok.ensures.program.accepted)
 
 pub returns-in-Ok-run_source-clause-ran : goal.returns-in-Ok-run_source-clause-ran
 returns-in-Ok-run_source-clause-ran g c =
     let holds = g.F.Files.holds c.args.files.now in
     let paths = paths_of c.args.sites.now in
-    let items = c.in-Ok.sources.items in
+    let items = c.in-Ok.accepted.sources.items in
     let bytes = c.index.result.now.bytes.items in
     let few : length items ≤ 1 = omega (arith, c.if-len-gt1.false, c.len.ensures) in
     let one : contents items ≡ bytes ∷ [] = one_source holds SOURCE_LIMIT c.args.sites.now items c.index.result.now c.in-Ok.ensures.held c.requires.some few c.index.ensures in
@@ -60,13 +60,13 @@ pub returns-clause-not_yet : goal.returns-clause-not_yet
 returns-clause-not_yet g c =
     let holds = g.F.Files.holds c.args.files.now in
     let paths = paths_of c.args.sites.now in
-    let items = c.in-Ok.sources.items in
+    let items = c.in-Ok.accepted.sources.items in
     let bytes = c.index.result.now.bytes.items in
     let few : length items ≤ 1 = omega (arith, c.if-len-gt1.false, c.len.ensures) in
     let one : contents items ≡ bytes ∷ [] = one_source holds SOURCE_LIMIT c.args.sites.now items c.index.result.now c.in-Ok.ensures.held c.requires.some few c.index.ensures in
     let is : contents items ≡ c.deref.result.now ∷ [] = one ∙ ap (λ s. s ∷ []) (sym c.deref.ensures.value) in
     let held : AreHeld holds SOURCE_LIMIT paths (c.deref.result.now ∷ []) = subst (AreHeld holds SOURCE_LIMIT paths) is c.in-Ok.ensures.held in
-    let trees = c.in-Ok.ensures.accepted.0 in
-    let accepted : AreAccepted (c.deref.result.now ∷ []) trees = subst (λ ss. AreAccepted ss trees) is c.in-Ok.ensures.accepted.1 in
+    let trees = c.in-Ok.accepted.program.blocks.items in
+    let accepted : AreAccepted (c.deref.result.now ∷ []) trees = subst (λ ss. AreAccepted ss trees) is c.in-Ok.ensures.program.accepted in
     subst (λ cause. IfNotYet cause (IsNotYetOf holds SOURCE_LIMIT paths)) (sym c.cause_of_unrun.ensures)
     (unrun_not_yet holds SOURCE_LIMIT paths c.deref.result.now trees c.in-Err-run_source.unrun held accepted c.in-Err-run_source.ensures.unrun)
