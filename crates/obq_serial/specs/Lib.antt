@@ -1,0 +1,2 @@
+pub mod Mutex
+pub mod Reads
