@@ -25,7 +25,7 @@ use Rattle.obq_laws.proofs.Turns.{turn_by_turn}
 
 -- ---- the store
 
-abbrev LocalOutcome : Store ℕ → Outcome → Type 0
+abbrev pub LocalOutcome : Store ℕ → Outcome → Type 0
 LocalOutcome st Waiting = Unit {0}
 LocalOutcome st (Acting kind loc st2 focus) = IsLocalStore st st2
 LocalOutcome st (Forking loc new focus) = Unit {0}
