@@ -7,6 +7,7 @@ mod program;
 mod single;
 
 pub use examine::front;
+pub use obq_base::SourceFault;
 pub use program::{FrontRefused, Program, Source};
 pub use single::SOURCE_LIMIT;
 

@@ -18,6 +18,3 @@ pub use ends::{Cause, End};
 pub use journals::Journal;
 pub use run::TURNS;
 pub use top::obliq;
-
-#[cfg(test)]
-mod tests;
