@@ -1,6 +1,3 @@
 mod codes;
-mod names;
 mod several;
 mod shapes;
-mod sites;
-mod tables;

@@ -17,6 +17,3 @@ pub use check::check_sources;
 pub use ends::{Cause, End};
 pub use journals::Journal;
 pub use top::obliq;
-
-#[cfg(test)]
-mod tests;

@@ -1,42 +1,22 @@
-//! Several sources.
+//! No source, and several, as a program.
 
-use crate::front;
-use crate::tests::sites::{source_of, told};
-use obq_base::CodeNo;
-use std::alloc::Global;
+ghost use Rattle.std.specs.Prelude.{◌≤◌, IfOk, length};
+
+use crate::{SOURCE_LIMIT, Source, front};
+use obq_base::{CodeNo, Name};
+use std::alloc::{AllocError, Global};
 use std::test::Fail;
 
-/// Two sources, and what is told of them.
-const PAIRS: [(&str, &str, &str); 12] = [
-    ("", "", "ok"),
-    ("let a = 1;", "let b = 2;", "ok"),
-    ("\"", "x", "lexical OpenText at byte 0"),
-    ("1; ?", "\"", "lexical Stray at byte 3"),
-    ("?", "let a = 1; a", "lexical Stray at byte 0"),
-    ("let a =", "\"", "syntax at token 3"),
-    ("x;", "\"", "unbound x at byte 0"),
-    ("1; x", ";", "unbound x at byte 3"),
-    ("1", "2 \"", "lexical OpenText at byte 2 of source 1"),
-    ("1", "1; ;", "syntax at token 2 of source 1"),
-    ("1", "1; x", "unbound x at byte 3 of source 1"),
-    ("let x = 1;", "x", "unbound x at byte 0 of source 1"),
-];
-
-fn told_of_two(alloc: Global, first: &str, second: &str) -> Result<String, Fail> {
-    let sources = [
-        source_of(alloc, b"A", first.as_bytes())?,
-        source_of(alloc, b"B", second.as_bytes())?,
-    ];
-    told(alloc, front(alloc, &sources))
-}
-
-#[test]
-fn pairs_of_sources(rt: HostRuntime) -> Result<(), Fail> {
-    for (first, second, want) in &PAIRS {
-        let found = told_of_two(rt.alloc(), first, second)?;
-        assert_eq!(rt; found.as_str(), *want, "{first} and {second}");
-    }
-    Ok(())
+/// The source of a site of this name; what is past the limit is left out.
+fn source_of(alloc: Global, name: &[u8], text: &[u8]) -> Result<Source, AllocError>
+    ensures { IfOk result (λ s. length s.bytes.items ≤ SOURCE_LIMIT) }
+{
+    let mut bytes = Vec::from_slice(alloc, text)?;
+    bytes.truncate(SOURCE_LIMIT);
+    Ok(Source {
+        name: Name::new(Vec::from_slice(alloc, name)?),
+        bytes,
+    })
 }
 
 #[test]

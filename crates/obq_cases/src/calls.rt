@@ -1,0 +1,141 @@
+//! One call of `obliq` over objects in memory.
+
+use obq_base::NoMemory;
+use obq_io::{Files, MemFiles, MemSink, PlainGate, Sink, SureFiles, SureSink};
+use obq_run::{End, obliq};
+use std::alloc::{AllocError, Global};
+use std::sync::Wait;
+use std::thread::Threads;
+
+/// The room of a sink, in bytes, where a case doesn't say it.
+const ROOM: u32 = 4096;
+
+/// A case: the words of a call, and the files and sinks that it meets.
+#[derive(Drop)]
+pub struct Call {
+    words: Vec<String>,
+    files: Vec<(String, Vec<u8>)>,
+    fails: Vec<u64>,
+    room: u32,
+    counted: bool,
+}
+
+/// What came of a call, with what each sink got.
+#[derive(Drop)]
+pub struct Outcome {
+    pub end: End,
+    pub out: Vec<u8>,
+    pub err: Vec<u8>,
+}
+
+/// What came of a call over sinks that keep the number of bytes alone.
+#[derive(Drop)]
+pub struct Counted {
+    pub end: End,
+    pub out: u64,
+    pub err: u64,
+}
+
+fn end_of<R: Threads + Wait + Sync, F: Files, O: Sink, E: Sink>(
+    rt: &R,
+    alloc: Global,
+    words: &[String],
+    files: &mut F,
+    out: &mut O,
+    err: &mut E,
+) -> End {
+    obliq(rt, alloc, words, files, out, err, &PlainGate)
+}
+
+impl Call {
+    /// A call without words and files, of which none fails and each sink has room.
+    pub fn new(alloc: Global) -> Call {
+        Call {
+            words: Vec::new(alloc),
+            files: Vec::new(alloc),
+            fails: Vec::new(alloc),
+            room: ROOM,
+            counted: false,
+        }
+    }
+
+    /// Whether it is made over files that never fail, and sinks that keep the number of bytes alone.
+    pub fn is_counted(&self) -> bool {
+        self.counted
+    }
+
+    pub fn add_word(&mut self, alloc: Global, word: &str) -> Result<(), AllocError> {
+        self.words.push(String::from_str(alloc, word)?)?;
+        Ok(())
+    }
+
+    /// A further file, which is empty.
+    pub fn add_file(&mut self, alloc: Global, path: &str) -> Result<(), AllocError> {
+        let path = String::from_str(alloc, path)?;
+        self.files.push((path, Vec::new(alloc)))?;
+        Ok(())
+    }
+
+    /// Appends bytes to the last file so many times.
+    pub fn add_bytes(&mut self, count: u32, piece: &[u8]) -> Result<(), AllocError> {
+        if let Some(file) = self.files.last_mut() {
+            for _ in 0..count {
+                file.1.extend_from_slice(piece)?;
+            }
+        }
+        Ok(())
+    }
+
+    /// What a line says: its first word, and what stands behind it.
+    pub fn add_line(&mut self, alloc: Global, word: &str, rest: &str) -> Result<(), AllocError> {
+        match word.as_bytes() {
+            b"call" => {
+                for word in rest.split_whitespace() {
+                    self.add_word(alloc, word)?;
+                }
+            }
+            b"file" => self.add_file(alloc, rest)?,
+            b"text" => self.add_bytes(1, rest.as_bytes())?,
+            b"byte" => self.add_bytes(1, &[rest.parse::<u8>().unwrap_or(0)])?,
+            b"times" => {
+                let (count, piece) = rest.split_once(' ').unwrap_or((rest, " "));
+                self.add_bytes(count.parse::<u32>().unwrap_or(0), piece.as_bytes())?;
+            }
+            b"fails" => self.fails.push(rest.parse::<u64>().unwrap_or(0))?,
+            b"room" => self.room = rest.parse::<u32>().unwrap_or(0),
+            b"counted" => self.counted = true,
+            _ => {}
+        }
+        Ok(())
+    }
+
+    /// Makes the call over files and sinks in memory.
+    pub fn outcome<R: Threads + Wait + Sync>(
+        self,
+        rt: &R,
+        alloc: Global,
+    ) -> Result<Outcome, NoMemory> {
+        let mut files = MemFiles::new(self.files, self.fails);
+        let mut out = MemSink::new(alloc, self.room)?;
+        let mut err = MemSink::new(alloc, ROOM)?;
+        let end = end_of(rt, alloc, &self.words, &mut files, &mut out, &mut err);
+        Ok(Outcome {
+            end,
+            out: out.bytes().to_vec(alloc)?,
+            err: err.bytes().to_vec(alloc)?,
+        })
+    }
+
+    /// Makes the call over files that never fail, and sinks that keep the number of bytes alone.
+    pub fn counted<R: Threads + Wait + Sync>(self, rt: &R, alloc: Global) -> Counted {
+        let mut files = SureFiles::new(self.files);
+        let mut out = SureSink::new();
+        let mut err = SureSink::new();
+        let end = end_of(rt, alloc, &self.words, &mut files, &mut out, &mut err);
+        Counted {
+            end,
+            out: out.count(),
+            err: err.count(),
+        }
+    }
+}

@@ -1,0 +1,72 @@
+//! Runs the cases of the files that the arguments name through `obliq`, over files and sinks in memory, and prints what came
+//! of each. A file has blocks, with an empty line between each two. A block that begins with `call` is one case, a line for
+//! each part of it (`Call::add_line`). Of any other block each line is a case (`print_row`); a first line that begins with
+//! `before` has what stands before each source. Lines that begin with `#` are remarks.
+#![tactic(auto)]
+
+mod calls;
+mod rows;
+
+use crate::calls::Call;
+use crate::rows::{print_call, print_row};
+use std::alloc::Global;
+use std::sync::Wait;
+use std::thread::Threads;
+use std::{env, fs, io};
+
+/// Runs a block that is one case.
+fn run_call<R: Threads + Wait + Sync + Print>(
+    rt: &R,
+    alloc: Global,
+    block: &str,
+) -> io::Result<()> {
+    let mut call = Call::new(alloc);
+    for line in block.split('\n') {
+        let (word, rest) = line.split_once(' ').unwrap_or((line, ""));
+        call.add_line(alloc, word, rest)?;
+        rt.println(line)?;
+    }
+    print_call(rt, alloc, call)
+}
+
+/// Runs a block of which each line is a case.
+fn run_rows<R: Threads + Wait + Sync + Print>(
+    rt: &R,
+    alloc: Global,
+    block: &str,
+) -> io::Result<()> {
+    let mut before = "";
+    for line in block.split('\n') {
+        if let Some(text) = line.strip_prefix("before ") {
+            rt.println(line)?;
+            before = text;
+        } else if !line.is_empty() && !line.starts_with("#") {
+            print_row(rt, alloc, before, line)?;
+        }
+    }
+    Ok(())
+}
+
+fn run_block<R: Threads + Wait + Sync + Print>(
+    rt: &R,
+    alloc: Global,
+    block: &str,
+) -> io::Result<()> {
+    if block.starts_with("call") {
+        run_call(rt, alloc, block)?;
+    } else {
+        run_rows(rt, alloc, block)?;
+    }
+    rt.println("")
+}
+
+fn main(rt: HostRuntime) -> io::Result<()> {
+    let alloc = rt.alloc();
+    for path in env::args(&rt)?.skip(1) {
+        let text = fs::read_to_string(&rt, path.as_str())?;
+        for block in text.trim_end_matches('\n').split("\n\n") {
+            run_block(&rt, alloc, block)?;
+        }
+    }
+    Ok(())
+}
