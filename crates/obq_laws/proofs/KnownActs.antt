@@ -23,7 +23,7 @@ KnownOutcome L T (Forking loc new focus) = IsKnown L T new × IsKnown L T focus
 -- what an operation makes is known
 abbrev pub MakesKnown : Places ℕ → Threads → Config → Operation ℕ → Type 0
 MakesKnown L T k (New cell after) = L (location_kind cell) (length k.store.cells)
-MakesKnown L T k (ForkOff f) = T (length k.threads)
+MakesKnown L T k (ForkOff f) = nat_lt 63 (length k.threads) ≡ false → T (length k.threads)
 MakesKnown L T k op = Unit {0}
 
 abbrev IsKnownSome : Places ℕ → Threads → Option (Cell ℕ) → Type 0
@@ -41,6 +41,10 @@ IsKnownIf L T (Some v) = IsKnownValue L T v
 outcome_if : (L : Places ℕ) (T : Threads) (b : Bool) (x y : Outcome) → KnownOutcome L T x → KnownOutcome L T y → KnownOutcome L T (if b then x else y)
 outcome_if L T true x y h i = h
 outcome_if L T false x y h i = i
+
+outcome_unless : (L : Places ℕ) (T : Threads) (b : Bool) (x y : Outcome) → KnownOutcome L T x → (b ≡ false → KnownOutcome L T y) → KnownOutcome L T (if b then x else y)
+outcome_unless L T true x y h i = h
+outcome_unless L T false x y h i = i refl
 
 -- ---- lists
 
@@ -267,7 +271,7 @@ known_perform L T k t s (ReadVariable l) i ts h m = (i, known_value L T (cell_at
 known_perform L T k t s (SetVariable l v) i ts h m = known_set_variable L T k.store l v (cell_at k.store l) i h.1
 known_perform L T k t s (Write w x) i ts h m = known_write L T k.store w x (cell_at k.store w) i
 known_perform L T k t s (ForkOff f) i ts h m =
-    outcome_if L T (nat_lt 63 (length k.threads)) (Acting ActKind.Fork 64 k.store fork_limit) (Forking (length k.threads) (Form Call (Part (Const f) End)) (Const (Thread (length k.threads)))) (i, (tt, tt)) ((tt, (h, tt)), m)
+    outcome_unless L T (nat_lt 63 (length k.threads)) (Acting ActKind.Fork 64 k.store fork_limit) (Forking (length k.threads) (Form Call (Part (Const f) End)) (Const (Thread (length k.threads)))) (i, (tt, tt)) (λ n. ((tt, (h, tt)), m n))
 known_perform L T k t s (JoinWith u) i ts h m = known_joined L T k.store u (slice_get k.threads u) i (thread_known L T k.threads u ts)
 known_perform L T k t s (LineUp o c guard) i ts h m = known_line L T ActKind.Line k.store c (λ line. line ++ t ∷ []) (Form (Lined o c) (Part guard End)) (cell_at k.store c) i ((h.0, h.1), (h.2, tt))
 known_perform L T k t s (GiveUp o c guard) i ts h m = (owned_known L T None k.store o (cell_at k.store o) i (known_get L T k.store.cells o i.0), ((h.0, h.1), (h.2, tt)))

@@ -16,7 +16,7 @@ use Rattle.obq_laws.specs.Known.{Places, Threads, AllObjects, IsKnown, AreKnown,
 
 -- ---- putting in
 
-known_if : {R : Type 0} (L : Places R) (T : Threads) (b : Bool) (t u : Term R) → IsKnown L T t → IsKnown L T u → IsKnown L T (if b then t else u)
+pub known_if : {R : Type 0} (L : Places R) (T : Threads) (b : Bool) (t u : Term R) → IsKnown L T t → IsKnown L T u → IsKnown L T (if b then t else u)
 known_if L T true t u h i = h
 known_if L T false t u h i = i
 
