@@ -298,7 +298,7 @@ no_activation_in n Called z = absurd z
 no_activation_in n (Within o m) z = absurd z
 no_activation_in n k z = refl
 
-none_before : {R : Type 0} (vs : List (Value R)) (parts : Parts R) → activations_of_parts (values_before vs parts) ≡ activations_of_parts parts
+pub none_before : {R : Type 0} (vs : List (Value R)) (parts : Parts R) → activations_of_parts (values_before vs parts) ≡ activations_of_parts parts
 none_before [] parts = refl
 none_before (v ∷ vs) parts = ap (λ n. 0 + n) (none_before vs parts) ∙ zero_plus (activations_of_parts parts)
   where
@@ -328,7 +328,7 @@ acts_through a n k before after g (Uncaught r) z p next source h = subst (λ m. 
 
 -- ---- activations
 
-with_none : {R : Type 0} (u : Term R) (after : Parts R) → AreSource after → activations_of u + activations_of_parts after ≡ activations_of u
+pub with_none : {R : Type 0} (u : Term R) (after : Parts R) → AreSource after → activations_of u + activations_of_parts after ≡ activations_of u
 with_none u after h = ap (λ n. activations_of u + n) (sources_none after h) ∙ plus_zero (activations_of u)
   where
     plus_zero : (n : ℕ) → n + 0 ≡ n
