@@ -1,20 +1,20 @@
 -- How many activations a term has, and how many are around its focus.
-use Rattle.std.specs.Prelude.{Bool, List, None, Option, Some, T, [], bytes_eq, drop, false, if◌then◌else◌, int_div, int_lt, int_rem, length, nat_lt, negsuc, not, pos, refl, replicate, suc, take, true, zero, ℕ, ℤ, ◌&&◌, ◌*ℤ◌, ◌++◌, ◌+ℤ◌, ◌+◌, ◌-ℤ◌, ◌<◌, ◌==◌, ◌∷◌, ◌≡◌, ◌≤◌, ◌⊎◌}
+use Rattle.std.specs.Prelude.{Bool, List, None, Option, Some, T, [], bytes_eq, drop, false, if◌then◌else◌, int_div, int_lt, int_rem, length, nat_lt, negsuc, not, pos, refl, replicate, suc, take, true, zero, ℕ, ℤ, ◌*ℤ◌, ◌++◌, ◌+ℤ◌, ◌+◌, ◌-ℤ◌, ◌==◌, ◌∷◌, ◌≡◌, ◌≤◌, ◌⊎◌}
 use Rattle.std.proofs.Common.{inl, inr, subst, ap, sym, ◌∙◌, arith, length-append}
 use Rattle.std.proofs.lemmas.Bool.Decides.{nat_tests}
 use Rattle.obq_base.specs.declared.trees.Flags.{Flags}
 use Rattle.obq_base.specs.declared.trees.Operator.{Operator}
-use Rattle.obq_model.specs.Terms.{Bytes, LocKind, Object, Array, Variable, Writer, Condition, Engine, Raised, Exn, ExitUp, Mode, Plain, Held, Inner, Builtin, Not, Exception, FmtInt, FmtBool, TextLength, TextSub, ArrayNew, ArraySize, PutText, NewCondition, SignalOne, SignalAll, Fork, JoinThread, NetExport, NetImport, ExportEngine, ImportEngine, Layout, NoLayout, ValueField, MethodField, AliasField, Value, Int, Truth, Okay, Text, Exc, Thread, Closure, Member, Loc, FieldBody, IsValue, IsMethod, IsAlias, Fields, Bare, Field, Kind, Empty, Then, Let, Var, LetRec, Group, Procedure, Assign, If, OrIf, AndIf, Operate, Call, Apply, MakeArray, Index, SetIndex, MakeObject, Select, Invoke, SetValue, SetMethod, SetAlias, Redirect, Clone, Raise, Exit, Loop, For, Foreach, Try, Finally, Watch, Read, Raising, Called, Within, Looping, Counting, EachAt, EachIn, Choosing, Unmet, Finishing, Cloning, Testing, Lined, Out, Term, Const, Name, Under, Form, Parts, End, Part}
-use Rattle.obq_model.specs.Put.{among, occurrence, put, put_parts, put_all, enter, put_members}
-use Rattle.obq_model.specs.Depth.{deepest, deepest_of, is_too_deep}
+use Rattle.obq_model.specs.Terms.{Bytes, Object, Array, Variable, Writer, Condition, Engine, Raised, Exn, ExitUp, Mode, Plain, Held, Inner, Builtin, Not, Exception, FmtInt, FmtBool, TextLength, TextSub, ArrayNew, ArraySize, PutText, NewCondition, SignalOne, SignalAll, Fork, JoinThread, NetExport, NetImport, ExportEngine, ImportEngine, Value, Int, Truth, Okay, Text, Exc, Thread, Closure, Member, Loc, IsMethod, Fields, Kind, Empty, Then, Let, Var, LetRec, Group, Procedure, Assign, If, OrIf, AndIf, Operate, Call, Apply, MakeArray, Index, SetIndex, MakeObject, Select, Invoke, SetValue, SetMethod, SetAlias, Redirect, Clone, Raise, Exit, Loop, For, Foreach, Try, Finally, Watch, Read, Raising, Called, Within, Looping, Counting, EachAt, EachIn, Choosing, Unmet, Finishing, Cloning, Testing, Lined, Out, Term, Const, Name, Under, Form, Parts, End, Part}
+use Rattle.obq_model.specs.Put.{enter, put_members}
+use Rattle.obq_model.specs.Depth.{deepest_of, is_too_deep}
 use Rattle.obq_model.specs.Exceptions.{raising, arity, int_overflow, text_limit, text_range, array_limit, field_twice, call_limit, closure_limit}
 use Rattle.obq_model.specs.Builtins.{is_i64, number, divided, same, compared, operate, part, arity_of_builtin}
 use Rattle.obq_model.specs.Store.{ObjectCell, ArrayCell, field_names, twice}
-use Rattle.obq_model.specs.Step.{Self, Itself, New, CallMethod, Leave, Set, EachItem, RunEngine, is_operand, Frame, Pending, values_before, plug, self_within, self_in, activations_in, Found, Next, Needs, Done, Uncaught, part_at, names_of, params_of, body_with, is_call_limit, call_closure, with_one_parameter, call_engine, is_callable, call_value, call, field_before, fields_of, layout_names, new_object, make_object, object_before, objects, clone, array_of_size, fork_of, apply, counting, choose, out_of_method, chosen, testing, tested, watching, cloned, row, out_of_loop, out_of_try, at_raised, through, find, find_part, activations_at, Operation}
-use Rattle.obq_model.specs.Forms.{IsSourceKind, IsSource, AreSource, IsSourceValue, AllSource, IsBegun, IsFormed, AreFormed}
+use Rattle.obq_model.specs.Step.{Self, Itself, New, CallMethod, Set, EachItem, RunEngine, is_operand, Frame, Pending, values_before, self_within, self_in, activations_in, Found, Next, Needs, Done, Uncaught, part_at, params_of, body_with, is_call_limit, call_closure, with_one_parameter, call_engine, call_value, call, fields_of, layout_names, new_object, objects, clone, array_of_size, fork_of, apply, counting, choose, out_of_method, chosen, tested, watching, cloned, row, out_of_loop, out_of_try, at_raised, through, find, find_part, activations_at, Operation}
+use Rattle.obq_model.specs.Forms.{IsSourceKind, IsSource, AreSource, IsSourceValue, AllSource, IsFormed, AreFormed}
 use Rattle.obq_model.specs.Located.{activations_of, activations_of_parts}
 use Rattle.obq_laws.specs.Activations.{left_by, may_enter, Activated, FoundActivations}
-use Rattle.obq_laws.proofs.Source.{source_put_all, source_enter, source_put_members, source_part_at, all_source-formed}
+use Rattle.obq_laws.proofs.Source.{source_enter, source_put_members, source_part_at, all_source-formed}
 use Rattle.obq_model.proofs.Found.{done_value}
 use Rattle.obq_laws.proofs.Methods.{source_body, source_snoc}
 

@@ -1,24 +1,24 @@
 -- No thread of a replay has more than 1,000 activations.
-use Rattle.std.specs.Prelude.{Bool, List, None, Option, Some, T, [], drop, false, if◌then◌else◌, length, nat_lt, negsuc, not, pos, refl, slice_get, slice_set, suc, true, unwrap_or, zero, ℕ, ℤ, ◌++◌, ◌+◌, ◌==◌, ◌∷◌, ◌≡◌, ◌≤◌, ◌||◌, ◌⊎◌}
+use Rattle.std.specs.Prelude.{Bool, List, None, Option, Some, [], drop, false, if◌then◌else◌, length, nat_lt, negsuc, not, pos, refl, slice_get, slice_set, suc, true, unwrap_or, zero, ℕ, ℤ, ◌++◌, ◌+◌, ◌==◌, ◌∷◌, ◌≡◌, ◌≤◌, ◌||◌, ◌⊎◌}
 use Rattle.std.proofs.Common.{inl, inr, subst, ap, sym, ◌∙◌, arith}
 use Rattle.obq_base.specs.declared.acts.ActKind.{ActKind}
 use Rattle.obq_base.specs.declared.acts.Act.{Act}
 use Rattle.obq_base.specs.declared.trees.Flags.{Flags}
 use Rattle.obq_base.specs.Tree.{BlockTree}
-use Rattle.obq_model.specs.Terms.{Bytes, Object, Variable, Engine, Raised, Exn, ExitUp, Value, Int, Okay, Text, Thread, Loc, FieldBody, IsValue, IsMethod, IsAlias, Fields, Kind, Call, Select, Invoke, Called, Within, EachAt, EachIn, Cloning, Lined, Out, Term, Const, Form, Parts, End, Part}
+use Rattle.obq_model.specs.Terms.{Bytes, Object, Variable, Engine, Raised, Exn, ExitUp, Value, Okay, Thread, Loc, FieldBody, IsValue, IsMethod, IsAlias, Fields, Kind, Call, Called, Within, EachIn, Cloning, Lined, Term, Const, Form, End, Part}
 use Rattle.obq_model.specs.Put.{put_all, enter}
 use Rattle.obq_model.specs.Exceptions.{raise, arity, array_index, is_protected, fork_limit}
 use Rattle.obq_model.specs.Store.{Cell, ObjectCell, ArrayCell, VariableCell, WriterCell, ConditionCell, EngineCell, Store, same_loc, field, with_field, append_fields, aliased, exported}
-use Rattle.obq_model.specs.Step.{Self, no_self, After, Itself, Entered, Offered, Operation, New, Get, CallMethod, Leave, Set, Copy, RedirectTo, GetItem, GetSize, EachSize, EachItem, SetItem, ReadVariable, SetVariable, Write, ForkOff, JoinWith, LineUp, GiveUp, Again, Signal, Broadcast, Export, Import, RunEngine, Frame, Pending, plug, values_before, Found, Next, Needs, Done, Uncaught, find, next_of, pure, activations_in, activations_at, self_in, self_at, body_with, testing}
-use Rattle.obq_model.specs.Forms.{IsSource, IsSourceValue, AllSource, IsFormed, marks_of}
+use Rattle.obq_model.specs.Step.{Self, no_self, After, Itself, Entered, Offered, Operation, New, Get, CallMethod, Leave, Set, Copy, RedirectTo, GetItem, GetSize, EachSize, EachItem, SetItem, ReadVariable, SetVariable, Write, ForkOff, JoinWith, LineUp, GiveUp, Again, Signal, Broadcast, Export, Import, RunEngine, Frame, Pending, plug, Found, Next, Needs, Done, Uncaught, find, next_of, activations_in, activations_at, self_in, self_at, body_with, testing}
+use Rattle.obq_model.specs.Forms.{IsSourceValue, AllSource, marks_of}
 use Rattle.obq_model.specs.Config.{Execution, Running, Returned, Failed, ThreadState, Config, cell_at, with_cell}
-use Rattle.obq_model.specs.Cells.{is_clear, is_refused, mode_for, owner_for, at_target, set_at_target, is_alias, items_of, item_at, value_of, is_free, after_new}
+use Rattle.obq_model.specs.Cells.{is_clear, is_refused, mode_for, owner_for, set_at_target, is_alias, items_of, item_at, value_of, is_free, after_new}
 use Rattle.obq_model.specs.Effect.{Outcome, Waiting, Acting, Forking, get, invoke, set_here, set_field, on_object, at_object, item, set_item, set_variable, write, with_line, owned_by, line_of, in_line, imported, joined, perform, end_by}
-use Rattle.obq_model.specs.Located.{activations_of, activations_of_parts}
-use Rattle.obq_model.specs.Opening.{block_term, opening_terms, new_threads, opening}
+use Rattle.obq_model.specs.Located.{activations_of}
+use Rattle.obq_model.specs.Opening.{block_term, opening_terms, new_threads}
 use Rattle.obq_laws.specs.Activations.{left_by, may_enter, Activated, ActivationsLaw}
-use Rattle.obq_laws.specs.Keeping.{AreSourceCells, IsSourceStore, IsFormedConfig, IsFormedIf}
-use Rattle.obq_laws.specs.Turns.{state_of, changed, with_thread, alone, CanGo, Turn, Steps, Acts, Forks, Ends, Raises}
+use Rattle.obq_laws.specs.Keeping.{IsSourceStore, IsFormedConfig, IsFormedIf}
+use Rattle.obq_laws.specs.Turns.{state_of, alone, CanGo, Turn, Steps, Acts, Forks, Ends, Raises}
 use Rattle.obq_laws.proofs.Source.{source_put_all, source_enter}
 use Rattle.obq_laws.proofs.Methods.{IsSourceAfter, IsSourceOperation, AreSourceFrames, IsGood, good_find, source_body}
 use Rattle.obq_laws.proofs.Acts.{IsSourceSome, source_get, IsSourceBody, source_field}

@@ -3,16 +3,16 @@ use Rattle.std.specs.Prelude.{Bool, List, None, Option, Some, [], bytes_eq, drop
 use Rattle.std.proofs.Common.{subst, sym}
 use Rattle.obq_base.specs.declared.acts.ActKind.{ActKind}
 use Rattle.obq_base.specs.declared.trees.Flags.{Flags}
-use Rattle.obq_model.specs.Terms.{Bytes, LocKind, Object, Variable, Engine, Value, Int, Okay, Text, Thread, Loc, FieldBody, IsValue, IsMethod, IsAlias, Fields, Bare, Field, Call, Select, Invoke, Called, Within, EachAt, EachIn, Cloning, Lined, Out, Term, Const, Form, Parts, End, Part}
+use Rattle.obq_model.specs.Terms.{Bytes, Object, Variable, Engine, Value, Okay, Thread, Loc, FieldBody, IsValue, IsMethod, IsAlias, Fields, Bare, Field, Call, Within, EachIn, Cloning, Lined, Term, Const, Form, End, Part}
 use Rattle.obq_model.specs.Put.{put_all, enter}
 use Rattle.obq_model.specs.Exceptions.{raise, arity, array_index, is_protected, fork_limit}
 use Rattle.obq_model.specs.Store.{Cell, ObjectCell, ArrayCell, VariableCell, WriterCell, ConditionCell, EngineCell, Store, same_loc, field, with_field, append_fields, aliased, exported, export}
-use Rattle.obq_model.specs.Step.{Self, After, Itself, Entered, Offered, Operation, New, Get, CallMethod, Leave, Set, Copy, RedirectTo, GetItem, GetSize, EachSize, EachItem, SetItem, ReadVariable, SetVariable, Write, ForkOff, JoinWith, LineUp, GiveUp, Again, Signal, Broadcast, Export, Import, RunEngine, values_before, body_with, testing}
+use Rattle.obq_model.specs.Step.{Self, After, Itself, Entered, Offered, Operation, New, Get, CallMethod, Leave, Set, Copy, RedirectTo, GetItem, GetSize, EachSize, EachItem, SetItem, ReadVariable, SetVariable, Write, ForkOff, JoinWith, LineUp, GiveUp, Again, Signal, Broadcast, Export, Import, RunEngine, values_before, testing}
 use Rattle.obq_model.specs.Config.{Execution, Running, Returned, Failed, ThreadState, Config, cell_at, with_cell}
-use Rattle.obq_model.specs.Cells.{is_clear, is_refused, mode_for, owner_for, at_target, set_at_target, is_alias, items_of, item_at, value_of, is_free, after_new}
+use Rattle.obq_model.specs.Cells.{is_clear, is_refused, mode_for, owner_for, set_at_target, is_alias, items_of, item_at, value_of, is_free, after_new}
 use Rattle.obq_model.specs.Effect.{Outcome, Waiting, Acting, Forking, get, invoke, set_here, set_field, on_object, at_object, item, set_item, set_variable, write, with_line, owned_by, line_of, in_line, imported, joined, perform}
 use Rattle.obq_model.proofs.Slices.{set_length}
-use Rattle.obq_laws.specs.Known.{Places, Threads, AllObjects, IsKnown, AreKnown, IsKnownValue, AreKnownFields, IsKnownBody, AllKnown, IsKnownCell, location_kind, IsKnownAfter, IsKnownOperation, AreKnownCells, AreKnownNames, IsKnownStore, IsKnownExecution, AreKnownThreads}
+use Rattle.obq_laws.specs.Known.{Places, Threads, IsKnown, AreKnown, IsKnownValue, AreKnownFields, IsKnownBody, AllKnown, IsKnownCell, location_kind, IsKnownAfter, IsKnownOperation, AreKnownCells, AreKnownNames, IsKnownStore, IsKnownExecution, AreKnownThreads}
 use Rattle.obq_laws.proofs.KnownStep.{known_put_all, known_enter, known_body}
 
 abbrev pub KnownOutcome : Places ℕ → Threads → Outcome → Type 0

@@ -6,19 +6,19 @@ use Rattle.obq_base.specs.declared.acts.Act.{Act}
 use Rattle.obq_base.specs.declared.acts.ActKind.{ActKind}
 use Rattle.obq_base.specs.declared.trees.Operator.{Operator}
 use Rattle.obq_base.specs.Tree.{BlockTree, BlockOf, MaybeBlock, NoBlock, ABlock, ItemTrees, NoItems, AnItem, ItemTree, LetItem, VarItem, LetRecItem, AssignItem, FieldItem, IndexItem, PlainItem, BindTrees, NoBinds, ABind, RecBindTrees, NoRecBinds, ARecBind, ProcedureTree, AProc, FieldTree, ValueOf, MethodOf, AliasOf, ExprTree, IntTree, TextTree, TruthTree, OkTree, NameTree, ProcTree, ArrayTree, ObjectTree, IfTree, LoopTree, ExitTree, ForTree, ForeachTree, TryTree, FinallyTree, RaiseTree, WatchTree, RedirectTree, CloneTree, ChainTree, SuffixedTree, ExprTrees, NoExprs, AnExpr, LinkTrees, NoLinks, ALink, SuffixTree, ApplySuffix, SelectSuffix, InvokeSuffix, IndexSuffix, SuffixTrees, NoSuffixes, ASuffix, ArmTrees, NoArms, AnArm, FieldTrees, NoFields, AField}
-use Rattle.obq_model.specs.Terms.{Bytes, LocKind, Object, Array, Variable, Writer, Condition, Engine, Raised, Exn, ExitUp, Builtin, Value, Thread, Closure, Member, Loc, FieldBody, IsValue, IsMethod, IsAlias, Fields, Bare, Field, Kind, Let, Var, Call, Apply, Read, Within, EachAt, EachIn, Cloning, Testing, Lined, Out, Term, Const, Name, Under, Form, Parts, End, Part}
+use Rattle.obq_model.specs.Terms.{Bytes, LocKind, Object, Array, Variable, Writer, Condition, Raised, Exn, ExitUp, Builtin, Value, Thread, Closure, Member, Loc, FieldBody, IsValue, IsMethod, IsAlias, Fields, Bare, Field, Kind, Let, Var, Call, Apply, Read, Within, EachAt, EachIn, Cloning, Testing, Lined, Out, Term, Const, Name, Under, Form, Parts, End, Part}
 use Rattle.obq_model.specs.Put.{among}
 use Rattle.obq_model.specs.Store.{Cell, ObjectCell, ArrayCell, VariableCell, WriterCell, ConditionCell, EngineCell, Store, same_loc}
-use Rattle.obq_model.specs.Step.{Self, no_self, After, Operation, New, Get, CallMethod, Leave, Set, Copy, RedirectTo, GetItem, GetSize, EachSize, EachItem, SetItem, ReadVariable, SetVariable, Write, ForkOff, JoinWith, LineUp, GiveUp, Again, Signal, Broadcast, Export, Import, RunEngine, Frame, plug, Found, Next, Needs, Done, Uncaught, find, next_of, pure, self_at}
+use Rattle.obq_model.specs.Step.{Self, no_self, Operation, New, ForkOff, plug, Found, Next, Needs, Done, Uncaught, find, next_of, self_at}
 use Rattle.obq_model.specs.Opening.{called_builtin, name_term, linked, group_names, block_term, maybe_term, maybe_parts, items_term, binds_term, group_parts, procedure_term, item_term, field_item, expr_term, expr_parts, chain_term, suffixes_term, suffix_term, if_term, arm_parts, field_parts, method_parts, opening_terms, new_threads, opening}
-use Rattle.obq_model.specs.Config.{Execution, Running, Returned, Failed, ThreadState, Config, cell_at, with_cell, with_new_cell}
-use Rattle.obq_model.specs.Effect.{Outcome, Waiting, Acting, Forking, perform, end_by}
+use Rattle.obq_model.specs.Config.{Execution, Running, Returned, Failed, ThreadState, Config, with_new_cell}
+use Rattle.obq_model.specs.Effect.{Acting, Forking, perform, end_by}
 use Rattle.obq_model.specs.Exceptions.{fork_limit}
 use Rattle.obq_model.specs.OneCell.{SameKind}
 use Rattle.obq_model.proofs.Slices.{get_below, set_same, set_other, set_length, push_same, push_other, push_length}
-use Rattle.obq_laws.specs.Known.{Places, Threads, AllObjects, IsKnown, AreKnown, IsKnownValue, IsKnownKind, AreKnownFields, IsKnownBody, AllKnown, IsKnownCell, IsKnownOperation, AreKnownFrames, IsKnownFound, location_kind, HasKind, IsPlace, IsThread, AreKnownCells, AreKnownNames, IsKnownStore, IsKnownExecution, AreKnownThreads, IsKnownConfig, ReferencesLaw, NextIsKnown}
+use Rattle.obq_laws.specs.Known.{Places, Threads, AllObjects, IsKnown, AreKnown, IsKnownValue, IsKnownKind, AreKnownFields, IsKnownBody, AllKnown, IsKnownCell, IsKnownFound, location_kind, HasKind, IsPlace, IsThread, AreKnownCells, AreKnownNames, IsKnownStore, IsKnownExecution, AreKnownThreads, IsKnownConfig, ReferencesLaw, NextIsKnown}
 use Rattle.obq_laws.specs.Locality.{IsLocalStore, SameStore, OneCell, OneName, OneMore}
-use Rattle.obq_laws.specs.Turns.{state_of, changed, with_thread, CanGo, Turn, Steps, Acts, Forks, Ends, Raises}
+use Rattle.obq_laws.specs.Turns.{state_of, changed, CanGo, Turn, Steps, Acts, Forks, Ends, Raises}
 use Rattle.obq_laws.proofs.Changes.{LocalOutcome, local_perform}
 use Rattle.obq_laws.proofs.KnownStep.{known_if, known_find, known_plug}
 use Rattle.obq_laws.proofs.KnownActs.{KnownOutcome, MakesKnown, IsKnownState, thread_known, known_perform}
@@ -148,9 +148,11 @@ add_known L T (x ∷ xs) s h i = (h.0, add_known L T xs s h.1 i)
 goes_on : (k : Config) (t : ℕ) (l : Execution) (n : ℕ) (st : Store ℕ) → IsKnownConfig k → IsLocalStore k.store st → IsKnownStore (IsPlace st) (IsThread (slice_set k.threads t (state_of l n))) st
     → IsKnownExecution (IsPlace st) (IsThread (slice_set k.threads t (state_of l n))) l → IsKnownConfig (changed k t l n st)
 goes_on k t l n st c local s x =
-    let threads : List ThreadState = slice_set k.threads t (state_of l n) in
-    (s, set_known (IsPlace st) (IsThread threads) k.threads t (state_of l n)
-    (later_threads (IsPlace k.store) (IsThread k.threads) (IsPlace st) (IsThread threads) (place_later k.store st local) (stays k t (state_of l n)) k.threads c.1) x)
+    let threads : List ThreadState = slice_set k.threads t (state_of l n) in (
+      s,
+      set_known (IsPlace st) (IsThread threads) k.threads t (state_of l n)
+          (later_threads (IsPlace k.store) (IsThread k.threads) (IsPlace st) (IsThread threads) (place_later k.store st local) (stays k t (state_of l n)) k.threads c.1) x,
+    )
   where
     stays : (k : Config) (t : ℕ) (s : ThreadState) (m : ℕ) → m < length k.threads → m < length (slice_set k.threads t s)
     stays k t s m h = subst (λ i. m < i) (sym (set_length k.threads t s)) h

@@ -3,8 +3,7 @@ use Rattle.std.specs.Prelude.{Bool, List, Some, false, slice_get, suc, true, ℕ
 use Rattle.obq_base.specs.declared.acts.Entry.{Entry}
 use Rattle.obq_base.specs.Tree.{BlockTree}
 use Rattle.obq_model.specs.Terms.{Term}
-use Rattle.obq_model.specs.Store.{same_loc}
-use Rattle.obq_model.specs.Step.{Self, no_self, Operation, CallMethod, Leave, RunEngine, Frame, Found, Next, Needs, Done, Uncaught, find, activations_at}
+use Rattle.obq_model.specs.Step.{Self, Operation, CallMethod, Leave, RunEngine, Found, Next, Needs, Done, Uncaught, find, activations_at}
 use Rattle.obq_model.specs.Forms.{IsFormed}
 use Rattle.obq_model.specs.Config.{Running, Config}
 use Rattle.obq_model.specs.Located.{activations_of}
