@@ -1,4 +1,4 @@
-use Rattle.std.proofs.Common.{◌≡◌, bytes_eq, ap, ◌∙◌}
+use Rattle.std.proofs.Common.{bytes_eq, ap, ◌∙◌}
 use Rattle.std.specs.Prelude.{option_map}
 use Rattle.std.specs.Map.{lookup}
 use Rattle.obq_namer.proofs.Rows.{is_exported}
