@@ -16,5 +16,6 @@ mod top;
 pub use check::check_sources;
 pub use ends::{Cause, End};
 pub use journals::Journal;
+pub use obq_base::{Entry, SourceFault};
 pub use run::TURNS;
 pub use top::obliq;
