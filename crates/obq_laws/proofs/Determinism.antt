@@ -10,7 +10,7 @@ use Rattle.obq_model.specs.Step.{no_self, Found, Next, Needs, Done, Uncaught, fi
 use Rattle.obq_model.specs.Config.{Execution, Running, Returned, Failed, ThreadState, Config, with_execution}
 use Rattle.obq_model.specs.Effect.{Effect, Does, Waits, Nothing, effect_of, effect_of_execution, effect_of_state, effect}
 use Rattle.obq_model.specs.Replay.{after_pure, act_same, spend, with_turns, exactly, then_act, act_turns, take_of, take_execution, take_state, take_entry}
-use Rattle.obq_laws.specs.Determinism.{entry_of, StepOrAct, OneAct, OneOutcome, CutEntry}
+use Rattle.obq_laws.specs.Determinism.{entry_of, StepOrAct, OneAct, CutEntry}
 use Rattle.obq_laws.proofs.HeldActs.{none_some}
 use Rattle.obq_laws.proofs.Exclusion.{act_same_eq, get_set, effect_after}
 
@@ -176,9 +176,6 @@ one_act turns k k1 k2 t n m a b e f =
     let same_config : with_turns t n (with_execution k t (Running x.last)) ≡ with_turns t m (with_execution k t (Running y.last)) = ap (λ i. with_turns t i (with_execution k t (Running x.last))) steps.0 ∙ ap (λ v. with_turns t m (with_execution k t (Running v))) steps.1 in
     let one : (a ≡ b) × (x.before_act ≡ y.before_act) = exactly_one a b (effect (with_turns t m (with_execution k t (Running y.last))) t) x.before_act y.before_act (ap (λ c. exactly a (effect c t)) (sym same_config) ∙ x.does) y.does in
     (steps.0, one.0, sym x.ends ∙ ap (with_turns t 1) one.1 ∙ y.ends)
-
-pub one_outcome : OneOutcome
-one_outcome trees turns entries k1 k2 e f = ap (λ o. unwrap_or o k1) (sym e ∙ f)
 
 -- ---- cutting an entry
 

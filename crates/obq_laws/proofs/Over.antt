@@ -7,16 +7,16 @@ use Rattle.obq_laws.specs.Determinism.{OverLaw}
 use Rattle.obq_laws.proofs.HeldActs.{clash}
 
 -- the thread with this number and state is able
-abbrev able_at : ℕ → Config → ℕ → Option ThreadState → Bool
+abbrev pub able_at : ℕ → Config → ℕ → Option ThreadState → Bool
 able_at turns k t o = elim o [ None ↦ false | Some state ↦ is_able_execution turns k t state.used state.execution ]
 
-plus_zero : (t : ℕ) → t + 0 ≡ t
+pub plus_zero : (t : ℕ) → t + 0 ≡ t
 plus_zero t = omega arith
 
-plus_suc : (t i : ℕ) → t + suc i ≡ suc t + i
+pub plus_suc : (t i : ℕ) → t + suc i ≡ suc t + i
 plus_suc t i = omega arith
 
-zero_plus : (i : ℕ) → 0 + i ≡ i
+pub zero_plus : (i : ℕ) → 0 + i ≡ i
 zero_plus i = omega arith
 
 none_able : (turns : ℕ) (k : Config) (t : ℕ) (ss : List ThreadState) → is_none (first_able_of turns k t ss) ≡ true → (i : ℕ) → able_at turns k (t + i) (slice_get ss i) ≡ false

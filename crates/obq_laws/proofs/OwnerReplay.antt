@@ -14,7 +14,8 @@ use Rattle.obq_model.specs.Config.{Execution, Running, Returned, Failed, ThreadS
 use Rattle.obq_model.specs.Effect.{Outcome, Waiting, Acting, Forking, perform, Effect, Does, Waits, Nothing, after_outcome, effect_of, effect_of_execution, effect_of_state, effect}
 use Rattle.obq_model.specs.Opening.{block_term, opening_terms, new_threads, opening}
 use Rattle.obq_model.specs.Replay.{after_pure, act_same, spend, with_turns, exactly, then_act, act_turns, take_of, take_execution, take_state, take_entry, replay_from}
-use Rattle.obq_laws.specs.Keeping.{IsNotHeld, Keeps, owner_of, IsSourceExecution, AllFit, FitExecution, IsFormedConfig, IsFormedIf, holds_now, IsOnce, is_owner, owns, execution_marks, marks_at, OwnersHold, OwnersHoldIf, OwnerLaw}
+use Rattle.obq_model.specs.OneCell.{owner_of}
+use Rattle.obq_laws.specs.Keeping.{IsNotHeld, Keeps, IsSourceExecution, AllFit, FitExecution, IsFormedConfig, IsFormedIf, holds_now, IsOnce, is_owner, owns, execution_marks, marks_at, OwnersHold, OwnersHoldIf, OwnerLaw}
 use Rattle.obq_laws.proofs.Source.{source-marks_of}
 use Rattle.obq_laws.proofs.Methods.{leaving, marks_around, AreSourceFrames, IsSourceOperation, IsGood, good_find}
 use Rattle.obq_laws.proofs.Acts.{IsGoodOutcome, FitsSelf, good_perform}
@@ -112,7 +113,7 @@ owned_found k t old ws (Uncaught (Exn x)) e c law f g l = owned_end k t old ws (
 owned_found k t old ws (Uncaught ExitUp) e c law f g l = owned_end k t old ws (Failed exit_outside) e law g refl l
 
 owned_execution : (k : Config) (t : ℕ) (old : ThreadState) (l : Execution) → slice_get k.threads t ≡ Some old → IsFormedConfig k → OwnersHold k.store k.threads → IsSourceExecution l → FitExecution k.store l → LawOf k.store t (execution_marks l) → OwnedEffect (effect_of_execution k t l)
-owned_execution k t old (Running u) e c law h f m = owned_found k t old (marks_of u) (find same_loc 0 no_self u) e c law f (good_find 0 no_self u h) m
+owned_execution k t old (Running u) e c law h f m = owned_found k t old (marks_of u) (find same_loc 0 no_self u) e c law f (good_find same_loc 0 no_self u h) m
 owned_execution k t old (Returned v) e c law h f m = tt
 owned_execution k t old (Failed x) e c law h f m = tt
 
@@ -148,7 +149,7 @@ law_step st t u h l = by_option (pure same_loc u) refl where
   by_option : (o : Option (Term ℕ)) → pure same_loc u ≡ o → LawAfter st t o
   by_option None e = tt
   by_option (Some v) e =
-      let kept : IsFormed no_self v × Keeps (marks_of u) (marks_of v) = step_keeps u v h e in
+      let kept : IsFormed no_self v × Keeps (marks_of u) (marks_of v) = step_keeps same_loc 0 no_self u v h e in
       (keeps_once (marks_of u) (marks_of v) kept.1 l.0, (λ o. l.1 o ∙ sym (keeps_now (marks_of u) (marks_of v) kept.1 o)))
 
 pub law_steps : (st : Store ℕ) (t n : ℕ) (u : Term ℕ) → IsFormed no_self u → AllFit st (marks_of u) → LawOf st t (marks_of u) → LawAfter st t (after_pure n u)
@@ -228,7 +229,7 @@ owned_from turns k (e ∷ es) c law = by_option (take_entry turns k e) (entry_fo
 
 -- ---- the opening: no owner and no marks
 
-writers_free : (n p : ℕ) → owner_of (slice_get (replicate n (WriterCell [])) p) ≡ None
+writers_free : (n p : ℕ) → owner_of {R = ℕ} (slice_get (replicate n (WriterCell [])) p) ≡ None
 writers_free zero p = refl
 writers_free (suc n) zero = refl
 writers_free (suc n) (suc p) = writers_free n p

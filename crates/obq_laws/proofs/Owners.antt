@@ -13,7 +13,8 @@ use Rattle.obq_model.specs.Forms.{IsSource, AreSource, AreSourceFields, AllSourc
 use Rattle.obq_model.specs.Config.{Execution, Running, Returned, Failed, ThreadState, Config, cell_at, with_cell}
 use Rattle.obq_model.specs.Cells.{is_self, is_clear, is_refused, mode_for, owner_for, set_at_target, is_alias, items_of, item_at, is_free}
 use Rattle.obq_model.specs.Effect.{Outcome, Waiting, Acting, Forking, get, invoke, set_here, set_field, on_object, at_object, item, set_item, set_variable, write, with_line, owned_by, line_of, in_line, imported, joined, perform}
-use Rattle.obq_laws.specs.Keeping.{owner_of, owner_at, holds, was_given_up, IsSourceConfig}
+use Rattle.obq_model.specs.OneCell.{owner_of}
+use Rattle.obq_laws.specs.Keeping.{owner_at, holds, was_given_up, IsSourceConfig}
 use Rattle.obq_laws.proofs.Source.{source_put_all, all_source-marks_of}
 use Rattle.obq_laws.proofs.Methods.{IsSourceOperation, marks_values}
 use Rattle.obq_laws.proofs.Acts.{IsObjectAt, IsSourceSome, source_get, IsSourceBody, source_field}

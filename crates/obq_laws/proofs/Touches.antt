@@ -13,7 +13,8 @@ use Rattle.obq_model.specs.Config.{Execution, Running, Returned, Failed, ThreadS
 use Rattle.obq_model.specs.Cells.{is_self, is_clear, is_refused, mode_for, owner_for, set_at_target, is_alias, items_of, item_at, is_free}
 use Rattle.obq_model.specs.Effect.{Outcome, Waiting, Acting, Forking, get, invoke, set_here, set_field, on_object, at_object, item, set_item, set_variable, write, with_line, owned_by, line_of, in_line, imported, joined, perform}
 use Rattle.obq_model.specs.Spans.{is_on}
-use Rattle.obq_laws.specs.Keeping.{owner_of, is_flagged}
+use Rattle.obq_model.specs.OneCell.{owner_of}
+use Rattle.obq_laws.specs.Keeping.{is_flagged}
 
 -- the kinds of act that an object's mutex guards, and those with which it changes its owner
 abbrev pub guarded : List ActKind

@@ -1,14 +1,13 @@
 -- What stands next is one thing, and how an entry may be cut.
-use Rattle.std.specs.Prelude.{List, None, Option, Some, slice_get, true, ℕ, ◌+◌, ◌↔◌, ◌≡◌}
+use Rattle.std.specs.Prelude.{None, Option, Some, slice_get, true, ℕ, ◌+◌, ◌↔◌, ◌≡◌}
 use Rattle.obq_base.specs.declared.acts.Act.{Act}
 use Rattle.obq_base.specs.declared.acts.Entry.{Entry}
-use Rattle.obq_base.specs.Tree.{BlockTree}
 use Rattle.obq_model.specs.Terms.{Term}
 use Rattle.obq_model.specs.Store.{same_loc}
 use Rattle.obq_model.specs.Step.{pure}
 use Rattle.obq_model.specs.Config.{Running, ThreadState, Config}
 use Rattle.obq_model.specs.Effect.{Nothing, effect}
-use Rattle.obq_model.specs.Replay.{take_entry, replay, is_over, IsOver}
+use Rattle.obq_model.specs.Replay.{take_entry, is_over, IsOver}
 
 -- an entry of a thread
 abbrev pub entry_of : ℕ → ℕ → Option Act → Entry
@@ -21,10 +20,6 @@ StepOrAct = (k : Config) (t : ℕ) (state : ThreadState) (u v : Term ℕ) → sl
 -- a thread's next act is one, behind one number of pure steps, and leaves one configuration
 abbrev pub OneAct : Type 0
 OneAct = (turns : ℕ) (k k1 k2 : Config) (t n m : ℕ) (a b : Act) → take_entry turns k (entry_of t n (Some a)) ≡ Some k1 → take_entry turns k (entry_of t m (Some b)) ≡ Some k2 → (n ≡ m) × (a ≡ b) × (k1 ≡ k2)
-
--- a journal replays to one configuration
-abbrev pub OneOutcome : Type 0
-OneOutcome = (trees : List BlockTree) (turns : ℕ) (entries : List Entry) (k1 k2 : Config) → replay trees turns entries ≡ Some k1 → replay trees turns entries ≡ Some k2 → k1 ≡ k2
 
 -- an entry is the same as two, of which the first has some of its pure steps
 abbrev pub CutEntry : Type 0

@@ -5,11 +5,13 @@ pub mod Found
 pub mod NaturalCells
 pub mod NaturalOpening
 pub mod Naturality
+pub mod OneCell
 pub mod Plug
 pub mod PutCommute
 pub mod PutRead
 pub mod PutTwice
 pub mod Readings
+pub mod Slices
 pub mod Spellings
 pub mod Substitution
 pub mod Uniqueness

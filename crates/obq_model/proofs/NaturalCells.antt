@@ -8,9 +8,11 @@ use Rattle.obq_base.specs.declared.trees.Flags.{Flags}
 use Rattle.obq_model.specs.Terms.{Bytes, Object, Variable, Engine, Plain, Held, Inner, Value, Int, Okay, Loc, FieldBody, IsValue, IsMethod, IsAlias, Fields, Bare, Field, Kind, Select, Invoke, Called, Within, EachAt, EachIn, Cloning, Lined, Out, Term, Const, Form, End, Part}
 use Rattle.obq_model.specs.Put.{put_all, enter}
 use Rattle.obq_model.specs.Exceptions.{wrong_type, arity, array_index, field_missing, not_method, not_value, is_protected}
-use Rattle.obq_model.specs.Store.{Cell, ObjectCell, ArrayCell, VariableCell, WriterCell, ConditionCell, EngineCell, field, with_field, append_fields, aliased}
-use Rattle.obq_model.specs.Step.{Self, Itself, Entered, Offered, Operation, Get, CallMethod, Leave, Set, Copy, RedirectTo, GetItem, GetSize, EachSize, EachItem, SetItem, ReadVariable, SetVariable, Write, LineUp, GiveUp, Signal, Broadcast, RunEngine, body_with, testing}
-use Rattle.obq_model.specs.Maps.{map_value, map_body, map_fields, map_kind, map_term, map_cell, map_self, map_operation}
+use Rattle.obq_model.specs.Store.{Cell, ObjectCell, ArrayCell, VariableCell, WriterCell, ConditionCell, EngineCell, field, with_field, append_fields, aliased, exported, export}
+use Rattle.obq_model.specs.Step.{Self, Itself, Entered, Offered, Operation, New, Get, CallMethod, Leave, Set, Copy, RedirectTo, GetItem, GetSize, EachSize, EachItem, SetItem, ReadVariable, SetVariable, Write, ForkOff, JoinWith, LineUp, GiveUp, Again, Signal, Broadcast, Export, Import, RunEngine, body_with, testing}
+use Rattle.obq_model.specs.Maps.{map_value, map_body, map_fields, map_kind, map_term, map_cell, map_self, map_operation, map_entry, map_names}
+use Rattle.obq_model.specs.Effect.{line_of}
+use Rattle.obq_model.specs.OneCell.{cell_of, owner_of}
 use Rattle.obq_model.specs.Cells.{Ends, is_object, is_clear, is_refused, mode_for, owner_for, at_target, get_row, invoke_row, set_at_target, is_alias, set_here_row, set_row, copy_row, redirect_row, on_object_row, object_row, owned_cell, item_row, items_of, item_at, set_item_row, set_variable_row, write_row, line_row, value_of, cell_row, is_free}
 use Rattle.obq_model.specs.Naturality.{Tells, SameEnds, NaturalAgain, NaturalImport, NaturalNew}
 use Rattle.obq_model.proofs.Naturality.{if_same, map_put_all, map_enter, map_values_before, map_body_with}
@@ -242,3 +244,63 @@ map_after_new f Itself r (ConditionCell line) = refl
 map_after_new f Itself r (EngineCell v) = refl
 map_after_new f (Entered scope) r cell = map_enter f (Loc Variable r ∷ []) scope
 map_after_new f (Offered name namer) r cell = refl
+
+-- ---- names
+
+pub map_exported : {R S : Type 0} (f : R → S) (x : Bytes) (names : List (Bytes × Value R)) → option_map (map_value f) (exported x names) ≡ exported x (map_names f names)
+map_exported f x [] = refl
+map_exported f x (e ∷ es) = if_same (option_map (map_value f)) (bytes_eq x e.0) (bytes_eq x e.0) (Some e.1) (exported x es) (Some (map_value f e.1)) (exported x (map_names f es)) refl refl (map_exported f x es)
+
+pub map_export : {R S : Type 0} (f : R → S) (x : Bytes) (v : Value R) (names : List (Bytes × Value R)) → map_names f (export x v names) ≡ export x (map_value f v) (map_names f names)
+map_export f x v [] = refl
+map_export f x v (e ∷ es) =
+    if_same (map_names f) (bytes_eq x e.0) (bytes_eq x e.0) ((x, v) ∷ es) (e ∷ export x v es) ((x, map_value f v) ∷ map_names f es) (map_entry f e ∷ export x (map_value f v) (map_names f es))
+    refl refl (ap (λ l. map_entry f e ∷ l) (map_export f x v es))
+
+-- ---- the cell of an operation
+
+pub map_cell_of : {R S : Type 0} (f : R → S) (op : Operation R) → cell_of (map_operation f op) ≡ option_map f (cell_of op)
+map_cell_of f (New cell after) = refl
+map_cell_of f (Get o x) = refl
+map_cell_of f (CallMethod o x vs) = refl
+map_cell_of f (Leave o out) = refl
+map_cell_of f (Set o x body) = refl
+map_cell_of f (Copy o first copied rest) = refl
+map_cell_of f (RedirectTo o target) = refl
+map_cell_of f (GetItem o i) = refl
+map_cell_of f (GetSize o) = refl
+map_cell_of f (EachSize o scope) = refl
+map_cell_of f (EachItem o i n scope) = refl
+map_cell_of f (SetItem o i v) = refl
+map_cell_of f (ReadVariable o) = refl
+map_cell_of f (SetVariable o v) = refl
+map_cell_of f (Write o text) = refl
+map_cell_of f (ForkOff v) = refl
+map_cell_of f (JoinWith u) = refl
+map_cell_of f (LineUp p o guard) = refl
+map_cell_of f (GiveUp o c guard) = refl
+map_cell_of f (Again p c guard) = refl
+map_cell_of f (Signal o) = refl
+map_cell_of f (Broadcast o) = refl
+map_cell_of f (Export x v) = refl
+map_cell_of f (Import x engine) = refl
+map_cell_of f (RunEngine o v) = refl
+
+-- the line and the owner of a cell are the same over other references
+pub map_line_of : {R S : Type 0} (f : R → S) (cell : Option (Cell R)) → line_of (option_map (map_cell f) cell) ≡ line_of cell
+map_line_of f None = refl
+map_line_of f (Some (ObjectCell flags owner fields)) = refl
+map_line_of f (Some (ArrayCell vs)) = refl
+map_line_of f (Some (VariableCell v)) = refl
+map_line_of f (Some (WriterCell bytes)) = refl
+map_line_of f (Some (ConditionCell line)) = refl
+map_line_of f (Some (EngineCell v)) = refl
+
+pub map_owner_of : {R S : Type 0} (f : R → S) (cell : Option (Cell R)) → owner_of (option_map (map_cell f) cell) ≡ owner_of cell
+map_owner_of f None = refl
+map_owner_of f (Some (ObjectCell flags owner fields)) = refl
+map_owner_of f (Some (ArrayCell vs)) = refl
+map_owner_of f (Some (VariableCell v)) = refl
+map_owner_of f (Some (WriterCell bytes)) = refl
+map_owner_of f (Some (ConditionCell line)) = refl
+map_owner_of f (Some (EngineCell v)) = refl

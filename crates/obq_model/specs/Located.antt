@@ -213,10 +213,13 @@ located_opening trees =
       replies = [];
     }
 
--- the requests and replies of a program's journal
+-- the fold of a program's journal, from its opening with sites
+abbrev pub located_run : List BlockTree → (turns : ℕ) → List Entry → Option Located
+located_run trees turns entries = locate_from (length trees) turns (located_opening trees) entries
+
+-- the requests and replies of a program's journal: those of the fold, and the requests that wait at the end
 abbrev pub located_replay : List BlockTree → (turns : ℕ) → List Entry → Option Located
-located_replay trees turns entries =
-    option_map (with_waiting (length trees) turns) (locate_from (length trees) turns (located_opening trees) entries)
+located_replay trees turns entries = option_map (with_waiting (length trees) turns) (located_run trees turns entries)
 
 -- ---- the table of links
 

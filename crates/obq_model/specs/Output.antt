@@ -1,5 +1,5 @@
 -- The texts that a call writes: the output of a run, the lines of accepted sources, and the lines that tell a refusal.
-use Rattle.std.specs.Prelude.{List, [], codes, length, ℕ, ◌++◌, ◌∷◌}
+use Rattle.std.specs.Prelude.{List, [], codes, length, slice_index_or, ℕ, ◌++◌, ◌∷◌}
 use Rattle.std.specs.List.{flat_map}
 use Rattle.std.specs.Fmt.{decimal}
 use Rattle.obq_base.specs.declared.acts.Report.{Report}
@@ -7,6 +7,7 @@ use Rattle.obq_base.specs.declared.faults.LexKind.{LexKind}
 use Rattle.obq_base.specs.declared.faults.LexKind.TheVariants as kind
 use Rattle.obq_base.specs.declared.faults.SourceFault.{SourceFault}
 use Rattle.obq_base.specs.declared.faults.SourceFault.TheVariants as fault
+use Rattle.obq_model.specs.Located.{Link, Sent}
 
 -- a line's end
 abbrev pub newline : List ℕ
@@ -24,6 +25,23 @@ report_line r =
 -- the output of a run: each site in order, and the threads
 abbrev pub run_text : List (List ℕ × List ℕ) → Report → List ℕ
 run_text sites r = flat_map (λ s. site_text s.0 s.1) sites ++ report_line r
+
+-- the name of a site of the table of links, of which the last is the name server
+abbrev pub link_name : List (List ℕ) → ℕ → List ℕ
+link_name names site = slice_index_or (names ++ codes "*" ∷ []) site []
+
+-- how many requests and replies one site sent to another
+abbrev pub link_line : List (List ℕ) → Link → List ℕ
+link_line names (Sent from to requests replies) =
+    link_name names from ++ (codes " -> " ++ (link_name names to ++ (codes " requests " ++ (decimal requests ++ (codes " replies " ++ (decimal replies ++ newline))))))
+
+-- the table of requests and replies, behind the threads
+abbrev pub links_text : List (List ℕ) → List Link → List ℕ
+links_text names rows = codes "== links ==" ++ (newline ++ flat_map (link_line names) rows)
+
+-- what stands before the journal's text, behind the threads or the table of links
+abbrev pub journal_heading : List ℕ
+journal_heading = codes "== journal ==" ++ newline
 
 -- the source of this site is accepted
 abbrev pub ok_line : List ℕ → List ℕ
@@ -69,6 +87,20 @@ too_many_line word = codes "too many sites: word " ++ (decimal word ++ newline)
 abbrev pub too_long_line : List ℕ → List ℕ
 too_long_line name = name ++ (codes ": source too long" ++ newline)
 
+-- the journal file is over its limit; a line of it is bad; an entry isn't legal; this thread can still go
+abbrev pub journal_too_long_line : List ℕ
+journal_too_long_line = codes "journal too long" ++ newline
+
+abbrev pub bad_journal_line : ℕ → List ℕ
+bad_journal_line line = codes "journal line " ++ (decimal line ++ newline)
+
+abbrev pub not_legal_line : ℕ → List ℕ
+not_legal_line entry = codes "journal entry " ++ (decimal entry ++ (codes " not legal" ++ newline))
+
+abbrev pub unfinished_line : ℕ → List ℕ
+unfinished_line thread = codes "journal stops before thread " ++ (decimal thread ++ newline)
+
+-- the source is accepted, and this token is the first of what doesn't run yet
 abbrev pub not_yet_line : List ℕ → ℕ → List ℕ
 not_yet_line name token = name ++ (codes ": not yet at token " ++ (decimal token ++ newline))
 

@@ -1,5 +1,5 @@
 -- Aliases and threads that are seen from another site.
-use Rattle.std.specs.Prelude.{List, [], codes, false, refl, ◌∷◌, ◌≡◌}
+use Rattle.std.specs.Prelude.{List, Some, [], codes, false, refl, ◌∷◌, ◌≡◌}
 use Rattle.std.specs.Fmt.{digits}
 use Rattle.obq_base.specs.Tree.{BlockTree}
 use Rattle.obq_model.specs.Located.{Sent}
@@ -31,7 +31,7 @@ unfolding digits
 alias_abroad_prints_other_schedule = refl
 
 -- the hop and then the selection at its target are each a request and a reply
-alias_abroad_links : links_of_run LowestFirst 300 100000 alias_abroad ≡ Sent 0 1 2 0 ∷ Sent 0 2 1 0 ∷ Sent 1 0 0 2 ∷ Sent 1 2 1 0 ∷ Sent 2 0 0 1 ∷ Sent 2 1 0 1 ∷ []
+alias_abroad_links : links_of_run LowestFirst 300 100000 alias_abroad ≡ Some (Sent 0 1 2 0 ∷ Sent 0 2 1 0 ∷ Sent 1 0 0 2 ∷ Sent 1 2 1 0 ∷ Sent 2 0 0 1 ∷ Sent 2 1 0 1 ∷ [])
 unfolding digits
 alias_abroad_links = refl
 
@@ -56,6 +56,6 @@ unfolding digits
 join_abroad_prints = refl
 
 -- a thread's home is where it was forked
-join_abroad_links : links_of_run LowestFirst 300 100000 join_abroad ≡ Sent 0 1 1 0 ∷ Sent 0 2 1 0 ∷ Sent 1 0 0 1 ∷ Sent 1 2 1 0 ∷ Sent 2 0 0 1 ∷ Sent 2 1 0 1 ∷ []
+join_abroad_links : links_of_run LowestFirst 300 100000 join_abroad ≡ Some (Sent 0 1 1 0 ∷ Sent 0 2 1 0 ∷ Sent 1 0 0 1 ∷ Sent 1 2 1 0 ∷ Sent 2 0 0 1 ∷ Sent 2 1 0 1 ∷ [])
 unfolding digits
 join_abroad_links = refl

@@ -3,6 +3,7 @@ use Rattle.std.specs.Prelude.{None, Some, [], codes, false, is_some, option_map,
 use Rattle.obq_base.specs.declared.acts.ActKind.{ActKind}
 use Rattle.obq_model.specs.Config.{act}
 use Rattle.obq_model.specs.Replay.{replay, first_able}
+use Rattle.obq_model.specs.Refusals.{NoThread, TooManyTurns, NoPure, ActWaits, WrongAct, first_illegal}
 use Rattle.obq_rows.specs.Schedule.{entry, NotOver, Printed, result}
 use Rattle.obq_rows.proofs.OneThread.{hello, nothing}
 use Rattle.obq_rows.proofs.Objects.{two_wait_for_each_other}
@@ -61,3 +62,38 @@ not_over_without_its_end = refl
 
 its_first_able_thread : option_map (first_able 100000) (replay hello 100000 (entry 0 0 (Some (act ActKind.Put 0)) ∷ [])) ≡ Some (Some 0)
 its_first_able_thread = refl
+
+-- ---- why an entry isn't legal
+
+why_no_thread : first_illegal hello 100000 (entry 1 0 (Some (act ActKind.End 1)) ∷ []) ≡ Some (0, NoThread)
+why_no_thread = refl
+
+why_ended : first_illegal hello 100000 (entry 0 0 (Some (act ActKind.Put 0)) ∷ entry 0 0 (Some (act ActKind.End 0)) ∷ entry 0 0 None ∷ []) ≡ Some (2, NoThread)
+why_ended = refl
+
+why_no_pure : first_illegal hello 100000 (entry 0 1 (Some (act ActKind.Put 0)) ∷ []) ≡ Some (0, NoPure)
+why_no_pure = refl
+
+why_another_act : first_illegal hello 100000 (entry 0 0 (Some (act ActKind.Get 0)) ∷ []) ≡ Some (0, WrongAct (Some (act ActKind.Put 0)))
+why_another_act = refl
+
+why_twice : first_illegal hello 100000 (entry 0 0 (Some (act ActKind.Put 0)) ∷ entry 0 0 (Some (act ActKind.Put 0)) ∷ []) ≡ Some (1, WrongAct (Some (act ActKind.End 0)))
+why_twice = refl
+
+why_a_step : first_illegal nothing 100000 (entry 0 0 (Some (act ActKind.End 0)) ∷ []) ≡ Some (0, WrongAct None)
+why_a_step = refl
+
+why_too_many_turns : first_illegal hello 1 (entry 0 0 (Some (act ActKind.Put 0)) ∷ entry 0 0 (Some (act ActKind.End 0)) ∷ []) ≡ Some (1, TooManyTurns)
+why_too_many_turns = refl
+
+the_limit_comes_before_the_steps : first_illegal hello 1 (entry 0 2 (Some (act ActKind.Put 0)) ∷ []) ≡ Some (0, TooManyTurns)
+the_limit_comes_before_the_steps = refl
+
+why_it_waits : first_illegal import_waits 100000 (entry 0 0 (Some (act ActKind.Import 0)) ∷ []) ≡ Some (0, ActWaits)
+why_it_waits = refl
+
+a_wait_comes_before_another_act : first_illegal import_waits 100000 (entry 0 0 (Some (act ActKind.Get 7)) ∷ []) ≡ Some (0, ActWaits)
+a_wait_comes_before_another_act = refl
+
+no_reason : first_illegal hello 2 (entry 0 0 (Some (act ActKind.Put 0)) ∷ entry 0 0 (Some (act ActKind.End 0)) ∷ []) ≡ None
+no_reason = refl

@@ -15,3 +15,5 @@ pub mod ActOrder
 pub mod Abroad
 pub mod Choices
 pub mod SpanEvents
+pub mod JournalTexts
+pub mod Slips

@@ -132,10 +132,10 @@ result trees turns entries = elim (replay trees turns entries) [ None ↦ NotLeg
 abbrev pub run : Order → (fuel : ℕ) → (turns : ℕ) → List BlockTree → Result
 run order fuel turns trees = result trees turns (journal order fuel turns trees)
 
--- the table of requests and replies of a scheduler's journal
-abbrev pub links_of_run : Order → (fuel : ℕ) → (turns : ℕ) → List BlockTree → List Link
+-- the table of requests and replies of a scheduler's journal; none where the journal isn't legal
+abbrev pub links_of_run : Order → (fuel : ℕ) → (turns : ℕ) → List BlockTree → Option (List Link)
 links_of_run order fuel turns trees =
-    elim (located_replay trees turns (journal order fuel turns trees)) [ None ↦ [] | Some l ↦ links (length trees) l ]
+    elim (located_replay trees turns (journal order fuel turns trees)) [ None ↦ None | Some l ↦ Some (links (length trees) l) ]
 
 -- how many of a scheduler's acts are so
 abbrev pub how_many : (Event → Bool) → List Event → ℕ
