@@ -1,16 +1,15 @@
 -- Every operation done at its site is what the store's machine does.
-use Rattle.std.specs.Prelude.{Bool, List, Option, Some, None, [], ◌∷◌, ℕ, ◌<◌, length, bytes_eq, nat_lt, option_map, slice_get, refl, ◌≡◌, if◌then◌else◌, nat_le}
+use Rattle.std.specs.Prelude.{Bool, Option, Some, None, ℕ, ◌<◌, length, option_map, slice_get, refl, ◌≡◌, if◌then◌else◌, nat_le}
 use Rattle.std.proofs.Common.{ap, sym, ◌∙◌}
 use Rattle.obq_base.specs.declared.acts.ActKind.{ActKind}
 use Rattle.obq_model.specs.Terms.{Bytes, Value, Okay, Thread, Call, Term, Const, Form, Part, End}
 use Rattle.obq_model.specs.Exceptions.{raise, fork_limit}
-use Rattle.obq_model.specs.Store.{Cell, ObjectCell, ArrayCell, VariableCell, WriterCell, ConditionCell, EngineCell, Store, same_loc, exported, export}
-use Rattle.obq_model.specs.Step.{Self, Operation, New, Get, CallMethod, Leave, Set, Copy, RedirectTo, GetItem, GetSize, EachSize, EachItem, SetItem, ReadVariable, SetVariable, Write, ForkOff, JoinWith, LineUp, GiveUp, Again, Signal, Broadcast, Export, Import, RunEngine}
+use Rattle.obq_model.specs.Store.{Cell, Store, same_loc, exported, export}
+use Rattle.obq_model.specs.Step.{Self, Operation, JoinWith}
 use Rattle.obq_model.specs.Config.{Returned, Failed, Config, cell_at, with_cell, with_new_cell}
 use Rattle.obq_model.specs.Effect.{Outcome, Waiting, Acting, Forking, kept, ends_at, on_cell, line_of, in_line, joined, imported, perform}
 use Rattle.obq_model.specs.Cells.{cell_row, again_row, after_new}
 use Rattle.obq_model.specs.Maps.{map_value, map_term, map_cell, map_self, map_after, map_operation, map_names}
-use Rattle.obq_model.proofs.Naturality.{if_same}
 use Rattle.obq_model.proofs.NaturalCells.{map_cell_row, map_again, map_import, map_after_new, map_cell_of, map_exported, map_export, map_line_of}
 use Rattle.obq_stands.specs.World.{Ref, same_ref, Born, Memory, with_left, Ending, ByValue, ByException, ending_term, Row, Idle, Ends}
 use Rattle.obq_stands.specs.Stands.{Agrees, MemoryStands, Ended, Does, OnCell, Makes, Retakes, Joins, Exports, Imports, TooMany}

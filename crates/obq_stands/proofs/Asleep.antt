@@ -13,7 +13,9 @@ use Rattle.obq_stands.specs.Over.{Waits, RetakeWaits}
 use Rattle.obq_stands.specs.Watch.{Sleeps, Asleep, Watch, Owed, no_slots, no_endings, Watched, Slept, with_line_at, SameLines}
 use Rattle.obq_stands.proofs.Update.{same_or, test_refl, test_no, with_at_same, with_at_other}
 use Rattle.obq_stands.proofs.Refs.{ref_or, with_ref_same, with_ref_other}
-use Rattle.obq_stands.proofs.Watches.{one_watch, asleep_later, in_more, some_born}
+use Rattle.obq_stands.proofs.Lining.{in_more, some_born}
+use Rattle.obq_stands.proofs.Sleeping.{one_watch}
+use Rattle.obq_stands.proofs.Watches.{asleep_later}
 
 abbrev Sleep : Type 0
 Sleep = Option (Ref × Ref)

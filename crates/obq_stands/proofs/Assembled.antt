@@ -1,5 +1,5 @@
 -- An act of a site is an act of the World.
-use Rattle.std.specs.Prelude.{List, Option, Some, None, [], ◌∷◌, ◌++◌, ℕ, suc, refl, ◌+◌, ◌<◌, ◌≡◌, ◌⊎◌, nat_lt, true, nat_le}
+use Rattle.std.specs.Prelude.{List, Option, Some, None, [], ◌∷◌, ◌++◌, ℕ, suc, refl, ◌+◌, ◌<◌, ◌≡◌, ◌⊎◌, true, nat_le}
 use Rattle.std.proofs.Common.{inl, inr, ap, sym, ◌∙◌, subst}
 use mathlib.Core.Path.{fun_ext}
 use Rattle.obq_base.specs.declared.acts.ActKind.{ActKind}

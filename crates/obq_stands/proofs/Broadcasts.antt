@@ -10,7 +10,7 @@ use Rattle.obq_stands.specs.Watch.{Sleeps, Asleep, wake, post_one, Watch, LineFi
 use Rattle.obq_stands.proofs.Update.{test_same, test_other, with_at_same, with_at_other}
 use Rattle.obq_stands.proofs.Refs.{ref_or, with_ref_same, with_ref_other}
 use Rattle.obq_stands.proofs.Memory.{left_later}
-use Rattle.obq_stands.proofs.Watches.{signal_home, signal_away}
+use Rattle.obq_stands.proofs.Signals.{signal_home, signal_away}
 use Rattle.obq_stands.proofs.Asleep.{signal_keeps}
 use Rattle.obq_model.specs.Effect.{line_of}
 

@@ -1,5 +1,5 @@
 -- Each event keeps that the World stands for the replay of its journal.
-use Rattle.std.specs.Prelude.{List, Option, Some, None, [], false, ◌∷◌, ◌++◌, ℕ, length, nat_lt, slice_get, refl, ◌+◌, ◌<◌, ◌≤◌, ◌≡◌, if◌then◌else◌, Bool, nat_le}
+use Rattle.std.specs.Prelude.{List, Option, Some, None, [], false, ◌∷◌, ◌++◌, ℕ, length, slice_get, refl, ◌+◌, ◌<◌, ◌≤◌, ◌≡◌, if◌then◌else◌, Bool, nat_le}
 use Rattle.std.proofs.Common.{ap, sym, ◌∙◌, subst, arith}
 use Rattle.obq_base.specs.declared.acts.ActKind.{ActKind}
 use Rattle.obq_base.specs.declared.acts.Entry.{Entry}

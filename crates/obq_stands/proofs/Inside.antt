@@ -3,7 +3,7 @@ use Rattle.std.specs.Prelude.{List, None, Some, [], zero, suc, refl, ℕ, ◌++�
 use Rattle.std.proofs.Common.{subst, ap, sym, ◌∙◌}
 use Rattle.obq_model.specs.Terms.{Term}
 use Rattle.obq_model.specs.Store.{same_loc}
-use Rattle.obq_model.specs.Step.{Self, no_self, Operation, Frame, Pending, fill, plug, Found, Next, Needs, Done, Uncaught, find, next_of, self_in, activations_in, self_at, activations_at}
+use Rattle.obq_model.specs.Step.{Self, no_self, Operation, Frame, plug, Found, Next, Needs, Done, Uncaught, find, next_of, self_at, activations_at}
 use Rattle.obq_model.specs.Maps.{map_term, map_self, map_operation, map_frames, map_found}
 use Rattle.obq_model.specs.Replay.{after_pure}
 use Rattle.obq_model.specs.Frames.{AreFrames, lifted, lifted_all, IsBusy}

@@ -34,7 +34,8 @@ use Rattle.obq_stands.proofs.Events.{found_op, less_is}
 use Rattle.obq_stands.proofs.Wired.{wired, may_wire, call_may}
 use Rattle.obq_stands.proofs.Kept.{step_keeps}
 use Rattle.obq_stands.proofs.SameLines.{unchanged}
-use Rattle.obq_stands.proofs.Watches.{one_watch, others_keep, delivered}
+use Rattle.obq_stands.proofs.Sleeping.{one_watch}
+use Rattle.obq_stands.proofs.Watches.{others_keep, delivered}
 use Rattle.obq_stands.proofs.Asleep.{awake_keeps, delivered_keeps}
 use Rattle.obq_stands.proofs.Broadcasts.{Whole}
 use Rattle.obq_stands.proofs.Turning.{states_of, Stood, turned_by, not_asleep, asleep_before, After2, act_whole}

@@ -17,7 +17,10 @@ pub mod Abroad
 pub mod Kept
 pub mod Over
 pub mod Presence
+pub mod Sleeping
 pub mod Watches
+pub mod Lining
+pub mod Signals
 pub mod Asleep
 pub mod SameLines
 pub mod Homes

@@ -20,7 +20,8 @@ use Rattle.obq_stands.proofs.Memory.{reading, reading_agrees}
 use Rattle.obq_stands.proofs.Opening.{first, begins}
 use Rattle.obq_stands.proofs.Presence.{present, present_abroad}
 use Rattle.obq_stands.proofs.Over.{idle_is_over}
-use Rattle.obq_stands.proofs.Watches.{one_watch, some_born, phase_of}
+use Rattle.obq_stands.proofs.Lining.{some_born}
+use Rattle.obq_stands.proofs.Sleeping.{one_watch, phase_of}
 use Rattle.obq_stands.proofs.Asleep.{quiet_waits}
 use Rattle.obq_stands.proofs.Turning.{states_of, asleep_before, not_asleep}
 use Rattle.obq_stands.proofs.Joined.{stood_request, again_sleep, wire_again, watch_step_keeps}

@@ -24,7 +24,10 @@ use Rattle.obq_stands.proofs.Memory.{reading, reading_agrees}
 use Rattle.obq_stands.proofs.Acts.{acts}
 use Rattle.obq_stands.proofs.Turns.{state_of, changed, acted_entry}
 use Rattle.obq_stands.proofs.SameLines.{unchanged, left_lines, act_keeps_lines}
-use Rattle.obq_stands.proofs.Watches.{map_sleep, running_one, lined_sleeps, out_sleeps, others_keep, gives_up, again_noted, again_home, lines_up, signal_home, signal_away}
+use Rattle.obq_stands.proofs.Lining.{lines_up}
+use Rattle.obq_stands.proofs.Signals.{signal_home, signal_away}
+use Rattle.obq_stands.proofs.Sleeping.{map_sleep, running_one, lined_sleeps, out_sleeps}
+use Rattle.obq_stands.proofs.Watches.{others_keep, gives_up, again_noted, again_home}
 use Rattle.obq_stands.proofs.Asleep.{awake_keeps, gives_up_keeps, lines_up_keeps, signal_keeps}
 use Rattle.obq_stands.proofs.Broadcasts.{place_one, Whole, Woken, NoneLeft, OneMore, agrees_on, all_woken}
 use Rattle.obq_model.proofs.NaturalCells.{map_line_of}

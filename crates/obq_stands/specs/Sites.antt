@@ -1,5 +1,5 @@
 -- A World put together from its sites, and what the contract of a site's act says of that site alone.
-use Rattle.std.specs.Prelude.{Bool, List, Option, Some, None, false, ◌++◌, ◌∷◌, [], ℕ, nat_lt, suc, ◌+◌, ◌<◌, ◌≤◌, ◌≡◌, nat_le}
+use Rattle.std.specs.Prelude.{Bool, List, Option, Some, None, false, ◌++◌, ◌∷◌, [], ℕ, suc, ◌+◌, ◌<◌, ◌≤◌, ◌≡◌, nat_le}
 use Rattle.obq_base.specs.declared.acts.ActKind.{ActKind}
 use Rattle.obq_base.specs.declared.acts.Entry.{Entry}
 use Rattle.obq_base.specs.Tree.{BlockTree}

@@ -1,5 +1,5 @@
 -- What a World stands for.
-use Rattle.std.specs.Prelude.{Bool, List, Option, Some, None, [], true, ◌∷◌, ◌++◌, ℕ, zero, suc, length, map, nat_lt, slice_get, ◌<◌, ◌≡◌, ◌⊎◌, nat_le}
+use Rattle.std.specs.Prelude.{Bool, List, Option, Some, None, [], true, ◌∷◌, ◌++◌, ℕ, zero, suc, length, slice_get, ◌<◌, ◌≡◌, ◌⊎◌, nat_le}
 use Rattle.obq_base.specs.declared.acts.ActKind.{ActKind}
 use Rattle.obq_base.specs.Tree.{BlockTree}
 use Rattle.obq_model.specs.Terms.{Bytes, Value, Okay, Term, Const}

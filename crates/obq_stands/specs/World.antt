@@ -7,8 +7,8 @@ use Rattle.obq_model.specs.Terms.{Bytes, LocKind, Object, Raised, Value, Int, Ok
 use Rattle.obq_model.specs.Put.{enter}
 use Rattle.obq_model.specs.Builtins.{kind_number}
 use Rattle.obq_model.specs.Exceptions.{raising, raise, wrong_type}
-use Rattle.obq_model.specs.Store.{Cell, ConditionCell, append_fields}
-use Rattle.obq_model.specs.Step.{Self, Operation, New, Get, CallMethod, Leave, Set, Copy, RedirectTo, GetItem, GetSize, EachSize, EachItem, SetItem, ReadVariable, SetVariable, Write, ForkOff, JoinWith, LineUp, GiveUp, Again, Signal, Broadcast, Export, Import, RunEngine, testing}
+use Rattle.obq_model.specs.Store.{Cell, append_fields}
+use Rattle.obq_model.specs.Step.{Self, Operation, New, Get, CallMethod, Leave, Set, Copy, GetItem, GetSize, EachSize, EachItem, ForkOff, LineUp, GiveUp, Again, testing}
 use Rattle.obq_model.specs.Cells.{at_target, set_at_target}
 
 -- f with x at k, and at the pair s, i
