@@ -97,8 +97,8 @@ pub data WakeIs (u : ℕ) (o q : Ref) (lined : Bool) : Place → Type 0 where
   OnItsWay : lined ≡ false → WakeIs u o q lined (InLine q.site o.site (wake u o))
   Arrived : lined ≡ false → WakeIs u o q lined (WaitsAt o.site (mark u o))
 
--- "For a thread in phase Lined or Out whose condition and object are at different sites: it is out of the condition's line exactly where one wake
--- for it, with that object's number, is in a line to the object's site or noted there." And each wake is at its thread's place only.
+-- A thread that lined up at a condition of another site than its object's is out of the condition's line exactly where one wake for it, which names
+-- that object, is in a line to the object's site or is noted there; and each wake is at its thread's place only.
 abbrev pub WakeExactly : Type 0
 WakeExactly =
     (trees : List BlockTree) (turns : ℕ) (w : World) (e : Watch) (i : WatchStands trees turns w e) (u : ℕ) (o q : Ref) (y : Born) → Asleep w.memory.heap (slice_get i.stands.config.threads u) o q → (q.site ≡ o.site → ⊥) → w.memory.heap q ≡ Some y

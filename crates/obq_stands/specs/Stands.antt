@@ -1,4 +1,5 @@
--- What a World stands for.
+-- What a World stands for: the relation between the sites and a configuration of the one-store machine, part by part.
+-- 1. The heaps of all sites are the store. 2. The segments of a thread, put into each other's holes, are its term. 3. Each thread is at one place.
 use Rattle.std.specs.Prelude.{Bool, List, Option, Some, None, [], true, ◌∷◌, ◌++◌, ℕ, zero, suc, length, slice_get, ◌<◌, ◌≡◌, ◌⊎◌, nat_le}
 use Rattle.obq_base.specs.declared.acts.ActKind.{ActKind}
 use Rattle.obq_base.specs.Tree.{BlockTree}
@@ -17,14 +18,14 @@ use Rattle.obq_base.specs.declared.limits.TheConstants.{THREAD_LIMIT}
 
 -- ---- 1. the heaps are the store
 
--- "A reference is read as the `born` of the cell that it names": f is a map of all references that does so. Elsewhere it is anything, but no two
--- references get one number, so that `is` and "is the current self" are told alike.
+-- A reference is read as the number of the cell that it names: f is a map of all references that does so. Where there is no cell it is anything, but
+-- no two references get one number, so that `is`, and whether an object is the current self, come out alike at the sites and in the store.
 pub record Agrees (f : Ref → ℕ) (h : Heap) : Type 0 where
   pub cells : (r : Ref) (x : Born) → h r ≡ Some x → f r ≡ x.born
   pub tells : (a b : Ref) → same_loc (f a) (f b) ≡ same_ref a b
 
--- "The numbers born of all cells of all sites are distinct and are the locations of c. A cell with number b stands for cell b of c.
--- Owners, lines, texts and names agree."
+-- The numbers of all cells of all sites are distinct, and are the locations of the store. The cell with number b stands for cell b: its values, owner,
+-- line and text are those of the store under every map that agrees, and so are the exported names.
 pub record MemoryStands (m : Memory) (st : Store ℕ) : Type 0 where
   pub counted : length st.cells ≡ m.count
   pub below : (r : Ref) (x : Born) → m.heap r ≡ Some x → x.born < m.count
@@ -35,7 +36,7 @@ pub record MemoryStands (m : Memory) (st : Store ℕ) : Type 0 where
 
 -- ---- 2. each thread's segments, put into each other's holes, are its term
 
--- a suspended segment, and the operation that it asked for
+-- a suspended segment, under the number of its call, and the operation that it asked for with the frames around it
 pub record Link : Type 0 where
   pub key : PendingCall
   pub segment : Segment
@@ -45,7 +46,7 @@ pub record Link : Type 0 where
 abbrev pub Table : Type 0
 Table = ℕ → ℕ → Option Suspended
 
--- "the focus of its innermost segment is the form of that request's act"
+-- it is there, and what stands next in its window is that operation
 pub record IsLink (p : Table) (t : ℕ) (l : Link) : Type 0 where
   pub here : p l.key.site l.key.number ≡ Some (record { thread = t; segment = l.segment })
   pub needs : find same_ref l.segment.depth l.segment.self l.segment.window ≡ Needs l.op l.frames
@@ -54,7 +55,7 @@ abbrev pub Fresh : ℕ → ℕ → List Link → Type 0
 Fresh s k [] = Unit {0}
 Fresh s k (l ∷ ls) = (l.key.site ≡ s → l.key.number ≡ k → ⊥) × Fresh s k ls
 
--- "Its segments, joined along their pending calls": from a pending call the suspended segments of thread t, innermost first, down to its bottom.
+-- A thread's chain: from a pending call the suspended segments of thread t, innermost first, down to its bottom; no call stands in it twice.
 -- Each begins with the activations and the current self at the hole of the one around it.
 abbrev pub Chained : Table → ℕ → ℕ → Self Ref → Option PendingCall → List Link → Type 0
 Chained p t depth self None [] = (depth ≡ 0) × (self ≡ no_self)
@@ -80,14 +81,14 @@ abbrev pub around : (Ref → ℕ) → List Link → List (Frame ℕ)
 around f [] = []
 around f (l ∷ ls) = around f ls ++ map_frames f l.frames
 
--- "read back as its term in c": u is x in the hole of the segments from this call, under every agreeing map
+-- u is the thread's term: x in the hole of the segments from this call on, read under every agreeing map
 pub record Reads (h : Heap) (p : Table) (t : ℕ) (u : Term ℕ) (x : Term Ref) (depth : ℕ) (self : Self Ref) (answers : Option PendingCall) : Type 0 where
   pub links : List Link
   pub chained : Chained p t depth self answers links
   pub calls : AreCalls links
   pub same : (f : Ref → ℕ) → Agrees f h → u ≡ plug (around f links) (map_term f x)
 
--- "The request has the operands, current self, activations that stand there": the segment of this pending call has this operation next
+-- a request for this operation is under way: it is what stands next in the segment of this pending call, whose activations and current self it carries
 pub record Asked (h : Heap) (p : Table) (t : ℕ) (u : Term ℕ) (call : PendingCall) (depth : ℕ) (self : Self Ref) (op : Operation Ref) : Type 0 where
   pub link : Link
   pub links : List Link
@@ -96,7 +97,7 @@ pub record Asked (h : Heap) (p : Table) (t : ℕ) (u : Term ℕ) (call : Pending
   pub asks : wire link.op ≡ op
   pub same : (f : Ref → ℕ) → Agrees f h → u ≡ plug (around f links) (map_term f link.segment.window)
 
--- "the form at the focus of the segment that was suspended for it is read as what the reply's outcome makes of it"
+-- a reply is under way: u is the term in which the form that asked is read as what the outcome makes of it
 pub record Answered (h : Heap) (p : Table) (t : ℕ) (u : Term ℕ) (call : PendingCall) (outcome : Outcome Ref) : Type 0 where
   pub link : Link
   pub links : List Link
@@ -106,7 +107,7 @@ pub record Answered (h : Heap) (p : Table) (t : ℕ) (u : Term ℕ) (call : Pend
   pub calls : AreCalls links
   pub same : (f : Ref → ℕ) → Agrees f h → u ≡ plug (around f (link ∷ links)) (map_term f (answer_term link.op outcome))
 
--- "Each thread that hasn't ended is at one place: a running segment, a request or reply in a line, or a waiting request."
+-- Each thread is at one place: its segment runs, its request or reply is in a line, its request waits, or its ending is kept.
 -- Nowhere only in the middle of an event; Absent: there is no such thread.
 pub data Place : Type 0 where
   Nowhere : Place
@@ -116,13 +117,13 @@ pub data Place : Type 0 where
   WaitsAt : (site : ℕ) → Parked → Place
   EndedAt : (site : ℕ) → Ending → Place
 
--- the thread goes on with a term of which P holds, and "its turns are those of c"
+-- the thread goes on with a term of which P holds, and has used these turns in the configuration
 pub record Goes (state : Option ThreadState) (used : ℕ) (P : Term ℕ → Type 0) : Type 0 where
   pub term : Term ℕ
   pub here : state ≡ Some (record { execution = Running term; used = used })
   pub reads : P term
 
--- "The thread has a turn left" where it has a request
+-- a thread with a packet: where that is a request, it has a turn left
 abbrev pub Carries : (turns : ℕ) → Heap → Table → ℕ → Option ThreadState → (from to : ℕ) → Packet → Type 0
 Carries turns h p t state a b (Request t2 k used depth self op) = (t2 ≡ t) × (used < turns) × Goes state used (λ u. Asked h p t u (record { site = a; number = k }) depth self op)
 Carries turns h p t state a b (Reply t2 k used outcome) = (t2 ≡ t) × Goes state used (λ u. Answered h p t u (record { site = b; number = k }) outcome)
@@ -131,7 +132,7 @@ abbrev pub ending_of : (Ref → ℕ) → Ending → Execution
 ending_of f (ByValue v) = Returned (map_value f v)
 ending_of f (ByException e) = Failed e
 
--- "the ending of one that has ended is kept at its home and stands for that of c"
+-- the ending that is kept stands for the thread's ending in the configuration
 pub record Ended (h : Heap) (state : Option ThreadState) (e : Ending) : Type 0 where
   pub execution : Execution
   pub used : ℕ
@@ -168,7 +169,8 @@ HasPlace r wa en ls t (InLine a b q) = (thread_of q ≡ t) × IsIn q (ls a b)
 HasPlace r wa en ls t (WaitsAt b x) = wa b t ≡ Some x
 HasPlace r wa en ls t (EndedAt s e) = en s t ≡ Some e
 
--- "A thread that isn't there in c, or has ended in it, has no segment, request or reply anywhere. No other ending is kept."
+-- What runs, waits, has ended or stands in a line has that as its thread's place: so a thread that isn't there, or has ended, has no segment, request
+-- or reply anywhere, one that goes on has no ending, and no thread has two of them.
 pub record Placed (r : ℕ → ℕ → Option Slot) (wa : ℕ → ℕ → Option Parked) (en : ℕ → ℕ → Option Ending) (ls : ℕ → ℕ → List Packet) (place : ℕ → Place) : Type 0 where
   pub runs : (s t : ℕ) (slot : Slot) → r s t ≡ Some slot → place t ≡ At s slot
   pub waits : (s t : ℕ) (x : Parked) → wa s t ≡ Some x → place t ≡ WaitsAt s x
@@ -190,7 +192,7 @@ pub record Stands (turns : ℕ) (w : World) (c : Config) : Type 0 where
   pub threads : (t : ℕ) → StandsAt turns w.memory.heap w.pending t (slice_get c.threads t) (place t)
   pub placed : Placed w.running w.waiting w.ended w.lines place
 
--- "replay of w's own journal on w's own program is c"
+-- its own journal replays, on its own program, to a configuration for which the World stands
 pub record StandsFor (trees : List BlockTree) (turns : ℕ) (w : World) : Type 0 where
   pub config : Config
   pub replays : replay trees turns w.journal ≡ Some config

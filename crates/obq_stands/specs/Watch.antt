@@ -41,7 +41,7 @@ pub record Watch : Type 0 where
   pub noted : ℕ → ℕ → Option Parked  -- object's site, thread
   pub notes : ℕ → ℕ → Option Ref  -- condition's site, thread: the object whose mutex it gives up
 
--- "The note of a thread in a condition's line names the object whose mutex its term gives up, or gave up, at that condition": and it is there once
+-- Each thread in a condition's line is there once and sleeps at that condition, and its note names the object whose mutex it gives up.
 abbrev pub LineFits : Heap → (ℕ → Option ThreadState) → (ℕ → Option Ref) → Ref → List ℕ → Type 0
 LineFits h states notes r [] = Unit {0}
 LineFits h states notes r (u ∷ us) = (o : Ref) × (notes u ≡ Some o) × Asleep h (states u) o r × (in_line u us ≡ false) × LineFits h states notes r us
@@ -60,8 +60,8 @@ pub record OutOf (h : Heap) (state : Option ThreadState) (u : ℕ) (o : Ref) (a 
   pub out : in_line u (line_of (Some cell.cell)) ≡ false
   pub asleep : Asleep h state o condition
 
--- "it is out of the condition's line exactly where one wake for it, with that object's number, is in a line to the object's site or noted there.
--- There is no other wake." This is the half that what is done rests on: where a wake is, the thread is out of the line.
+-- Where a wake for a thread is in a line or noted, it names the object that the thread sleeps for, at that object's site, and the thread is out of the
+-- line of its condition, which is at another site. No wake is anywhere else. What is done rests on this half.
 abbrev pub Owed : Heap → Option ThreadState → ℕ → Place → Type 0
 Owed h state u Nowhere = Unit {0}
 Owed h state u (InLine a b p) = (o : Ref) × (p ≡ wake u o) × (a ≡ b → ⊥) × OutOf h state u o a b
