@@ -1,2 +1,4 @@
+pub mod Same
 pub mod Tree
 pub mod View
+pub mod formers

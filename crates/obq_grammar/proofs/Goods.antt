@@ -3,12 +3,12 @@ use Rattle.std.proofs.Common.{ℕ, suc, refl}
 use Rattle.obq_base.specs.declared.tokens.TokenKind.{TokenKind}
 use Rattle.obq_base.specs.declared.trees.Block.{Block}
 use Rattle.obq_model.specs.Nodes.{next}
-use Rattle.obq_model.specs.Grammar.{IsNoOpen, IsBlock, IsMore, IsItem, IsLet, IsBinds, IsMoreBinds, IsBind, IsRecBinds, IsMoreRecBinds, IsRecBind, IsFieldBody, IsMeth, IsProc, IsParameters, IsNames, IsMoreNames, IsExpr, IsLevel, IsLinks, IsCall, IsArgs, IsMoreArgs, IsPrim, IsArray, IsArm, IsElsifs, IsElse, IsTry, IsGuard, IsGuards, IsBothFlags, IsFields, IsMoreFields, IsField}
+use Rattle.obq_model.specs.Grammar.{IsNoOpen, IsBlock, IsItem, IsBinds, IsBind, IsRecBinds, IsRecBind, IsFieldBody, IsMeth, IsParameters, IsNames, IsExpr, IsLevel, IsLinks, IsCall, IsArgs, IsPrim, IsArray, IsArm, IsElsifs, IsTry, IsGuard, IsGuards, IsFields, IsField}
 use Rattle.obq_grammar.specs.Follow.{Anything, EndsSuffixed, EndsLevel, EndsExpr, EndsNames, EndsArgs, EndsItem, EndsBlock, EndsElsifs, EndsGuards}
 use Rattle.obq_grammar.proofs.Theory.{Good}
 use Rattle.obq_grammar.proofs.Sets.{no_open, suffixed_dotted, level_suffixed, expr_suffixed, args_expr, item_expr, block_item, elsifs_block, guards_block}
-use Rattle.obq_grammar.proofs.Unique.{unique_block, unique_more, unique_item, unique_let, unique_binds, unique_more_binds, unique_bind, unique_rec_binds, unique_more_rec_binds, unique_rec_bind, unique_field_body, unique_meth, unique_proc, unique_parameters, unique_names, unique_more_names, unique_expr, unique_level, unique_links, unique_call, unique_args, unique_more_args, unique_prim, unique_array, unique_arm, unique_elsifs, unique_else, unique_try, unique_guard, unique_guards, unique_both_flags, unique_fields, unique_more_fields, unique_field}
-use Rattle.obq_grammar.proofs.Local.{local_block, local_more, local_item, local_let, local_binds, local_more_binds, local_bind, local_rec_binds, local_more_rec_binds, local_rec_bind, local_field_body, local_meth, local_proc, local_parameters, local_names, local_more_names, local_expr, local_level, local_links, local_call, local_args, local_more_args, local_prim, local_array, local_arm, local_elsifs, local_else, local_try, local_guard, local_guards, local_both_flags, local_fields, local_more_fields, local_field}
+use Rattle.obq_grammar.proofs.Unique.{unique_block, unique_item, unique_binds, unique_bind, unique_rec_binds, unique_rec_bind, unique_field_body, unique_meth, unique_parameters, unique_names, unique_expr, unique_level, unique_links, unique_call, unique_args, unique_prim, unique_array, unique_arm, unique_elsifs, unique_try, unique_guard, unique_guards, unique_fields, unique_field}
+use Rattle.obq_grammar.proofs.Local.{local_block, local_item, local_binds, local_bind, local_rec_binds, local_rec_bind, local_field_body, local_meth, local_parameters, local_names, local_expr, local_level, local_links, local_call, local_args, local_prim, local_array, local_arm, local_elsifs, local_try, local_guard, local_guards, local_fields, local_field}
 
 -- a token that may stand behind such an N is no "("
 not_open : (kind : TokenKind) → EndsSuffixed kind → IsNoOpen kind
@@ -29,29 +29,17 @@ block_open kind h = item_open kind (block_item kind h)
 pub good_block : Good IsBlock EndsBlock
 good_block = record { unique = λ a b x r s p h q k. unique_block p h b s q k; local = λ a x r p v h. local_block p v (λ g. block_open (next v) h) }
 
-pub good_more : Good IsMore EndsBlock
-good_more = record { unique = λ a b x r s p h q k. unique_more p h b s q k; local = λ a x r p v h. local_more p v (λ g. block_open (next v) h) }
-
 pub good_item : Good IsItem EndsItem
 good_item = record { unique = λ a b x r s p h q k. unique_item p h b s q k; local = λ a x r p v h. local_item p v (λ g. item_open (next v) h) }
 
-pub good_let : (p : ℕ) → Good (IsLet p) EndsItem
-good_let p = record { unique = λ a b x r s p h q k. unique_let p h b s q k; local = λ a x r p v h. local_let p v (λ g. item_open (next v) h) }
-
 pub good_binds : Good IsBinds EndsArgs
 good_binds = record { unique = λ a b x r s p h q k. unique_binds p h b s q k; local = λ a x r p v h. local_binds p v (λ g. args_open (next v) h) }
-
-pub good_more_binds : Good IsMoreBinds EndsArgs
-good_more_binds = record { unique = λ a b x r s p h q k. unique_more_binds p h b s q k; local = λ a x r p v h. local_more_binds p v (λ g. args_open (next v) h) }
 
 pub good_bind : Good IsBind EndsExpr
 good_bind = record { unique = λ a b x r s p h q k. unique_bind p h b s q k; local = λ a x r p v h. local_bind p v (λ g. expr_open (next v) h) }
 
 pub good_rec_binds : Good IsRecBinds EndsNames
 good_rec_binds = record { unique = λ a b x r s p h q k. unique_rec_binds p h b s q k; local = λ a x r p v h. local_rec_binds p v }
-
-pub good_more_rec_binds : Good IsMoreRecBinds EndsNames
-good_more_rec_binds = record { unique = λ a b x r s p h q k. unique_more_rec_binds p h b s q k; local = λ a x r p v h. local_more_rec_binds p v }
 
 pub good_rec_bind : Good IsRecBind Anything
 good_rec_bind = record { unique = λ a b x r s p h q k. unique_rec_bind p b s q k; local = λ a x r p v h. local_rec_bind p v }
@@ -62,17 +50,11 @@ good_field_body = record { unique = λ a b x r s p h q k. unique_field_body p h 
 pub good_meth : Good IsMeth Anything
 good_meth = record { unique = λ a b x r s p h q k. unique_meth p b s q k; local = λ a x r p v h. local_meth p v }
 
-pub good_proc : Good IsProc Anything
-good_proc = record { unique = λ a b x r s p h q k. unique_proc p b s q k; local = λ a x r p v h. local_proc p v }
-
 pub good_parameters : Good IsParameters Anything
 good_parameters = record { unique = λ a b x r s p h q k. unique_parameters p b s q k; local = λ a x r p v h. local_parameters p v }
 
 pub good_names : Good IsNames EndsNames
 good_names = record { unique = λ a b x r s p h q k. unique_names p h b s q k; local = λ a x r p v h. local_names p v }
-
-pub good_more_names : Good IsMoreNames EndsNames
-good_more_names = record { unique = λ a b x r s p h q k. unique_more_names p h b s q k; local = λ a x r p v h. local_more_names p v }
 
 pub good_expr : Good IsExpr EndsExpr
 good_expr = record { unique = λ a b x r s p h q k. unique_expr p h b s q k; local = λ a x r p v h. local_expr p v (λ g. expr_open (next v) h) }
@@ -89,9 +71,6 @@ good_call = record { unique = λ a b x r s p h q k. unique_call p b s q k; local
 pub good_args : Good IsArgs EndsArgs
 good_args = record { unique = λ a b x r s p h q k. unique_args p h b s q k; local = λ a x r p v h. local_args p v (λ g. args_open (next v) h) }
 
-pub good_more_args : Good IsMoreArgs EndsArgs
-good_more_args = record { unique = λ a b x r s p h q k. unique_more_args p h b s q k; local = λ a x r p v h. local_more_args p v (λ g. args_open (next v) h) }
-
 pub good_prim : Good IsPrim Anything
 good_prim = record { unique = λ a b x r s p h q k. unique_prim p b s q k; local = λ a x r p v h. local_prim p v }
 
@@ -104,23 +83,14 @@ good_arm = record { unique = λ a b x r s p h q k. unique_arm p h b s q k; local
 pub good_elsifs : Good IsElsifs EndsElsifs
 good_elsifs = record { unique = λ a b x r s p h q k. unique_elsifs p h b s q k; local = λ a x r p v h. local_elsifs p v (λ g. block_open (next v) (elsifs_block (next v) h)) }
 
-pub good_else : Good IsElse Anything
-good_else = record { unique = λ a b x r s p h q k. unique_else p b s q k; local = λ a x r p v h. local_else p v }
-
 pub good_guard : Good IsGuard EndsBlock
 good_guard = record { unique = λ a b x r s p h q k. unique_guard p h b s q k; local = λ a x r p v h. local_guard p v (λ g. block_open (next v) h) }
 
 pub good_guards : Good IsGuards EndsGuards
 good_guards = record { unique = λ a b x r s p h q k. unique_guards p h b s q k; local = λ a x r p v h. local_guards p v (λ g. block_open (next v) (guards_block (next v) h)) }
 
-pub good_both_flags : Good IsBothFlags Anything
-good_both_flags = record { unique = λ a b x r s p h q k. unique_both_flags p b s q k; local = λ a x r p v h. local_both_flags p v }
-
 pub good_fields : Good IsFields EndsArgs
 good_fields = record { unique = λ a b x r s p h q k. unique_fields p h b s q k; local = λ a x r p v h. local_fields p v (λ g. args_open (next v) h) }
-
-pub good_more_fields : Good IsMoreFields EndsArgs
-good_more_fields = record { unique = λ a b x r s p h q k. unique_more_fields p h b s q k; local = λ a x r p v h. local_more_fields p v (λ g. args_open (next v) h) }
 
 pub good_field : Good IsField EndsExpr
 good_field = record { unique = λ a b x r s p h q k. unique_field p h b s q k; local = λ a x r p v h. local_field p v (λ g. expr_open (next v) h) }

@@ -8,3 +8,4 @@ pub mod Goods
 pub mod Top
 pub mod Prefixes
 pub mod Samples
+pub mod failing

@@ -1,5 +1,5 @@
 -- Of kinds of tokens: what stands behind one N may stand behind another.
-use Rattle.std.proofs.Common.{◌≡◌, ℕ, zero, suc, Bool, true, false, ◌||◌, List, [], ◌∷◌, refl, sym, subst, ap, inl, inr, ◌⊎◌, eqb-true, ◌==◌}
+use Rattle.std.proofs.Common.{◌≡◌, ℕ, zero, suc, Bool, true, false, ◌||◌, List, [], ◌∷◌, refl, subst, ap, inl, inr, ◌⊎◌, eqb-true, ◌==◌}
 use Rattle.obq_base.specs.declared.tokens.TokenKind.{TokenKind}
 use Rattle.obq_base.specs.declared.tokens.TokenKind.TheVariants as k
 use Rattle.obq_base.specs.declared.trees.Operator.{Operator}
@@ -18,10 +18,6 @@ no_right false b h = h
 pub no_both : (a b : Bool) → No a → No b → No (a || b)
 no_both true b h k = h
 no_both false b h k = k
-
-pub yes_left : (a b : Bool) → Yes a → Yes (a || b)
-yes_left true b h = tt
-yes_left false b h = absurd h
 
 pub yes_right : (a b : Bool) → Yes b → Yes (a || b)
 yes_right true b h = tt
@@ -46,9 +42,6 @@ is_word_same (k.Symbol a) (k.Symbol b) h = ap (λ (n : ℕ). k.Symbol n) (eqb-tr
 is_word_same k.EndOfSource k.EndOfSource h = refl
 is_word_same _ _ h = absurd h
 
-pub not_word : (w kind : TokenKind) → (kind ≡ w → ⊥) → No (is_word w kind)
-not_word w kind n = not_yes (is_word w kind) (λ h. n (sym (is_word_same w kind h)))
-
 -- P of each word of a list
 abbrev pub Each : (TokenKind → Type 0) → List TokenKind → Type 0
 Each P [] = Unit {0}
@@ -65,9 +58,6 @@ among_each P (w ∷ ws) kind e h = elim (one_of (is_word w kind) (among ws kind)
 
 pub no_open : (kind : TokenKind) → EndsDotted kind → IsNoOpen kind
 no_open kind h e = subst EndsDotted e h
-
-pub open_ended : (kind : TokenKind) → IsNoOpen kind → EndsDotted kind
-open_ended kind n = not_word sym_open kind n
 
 pub suffixed_dotted : (kind : TokenKind) → EndsSuffixed kind → EndsDotted kind
 suffixed_dotted kind h = no_left (is_word sym_open kind) false (no_right (is_word sym_open_bracket kind) _ (no_right (is_word sym_dot kind) _ h))

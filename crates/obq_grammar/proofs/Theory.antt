@@ -5,9 +5,6 @@ use Rattle.obq_base.specs.declared.tokens.Token.{Token}
 use Rattle.obq_model.specs.Nodes.{next, token}
 use Rattle.obq_grammar.specs.Fails.{Cut, here, there, Fails}
 
-abbrev pub Lang : Type 0 → Type 1
-Lang A = A → List Token → List Token → Type 0
-
 pub same_front : {y z w v : List Token} → Cut y z w v → next v ≡ next z → next w ≡ next y
 same_front here e = e
 same_front (there k) e = refl
@@ -15,11 +12,6 @@ same_front (there k) e = refl
 pub trans : {x y z u w v : List Token} → Cut x y u w → Cut y z w v → Cut x z u v
 trans here k = k
 trans (there j) k = there (trans j k)
-
--- what may stand at the cut stands at the front
-pub fronts : (U : TokenKind → Type 0) {y z w v : List Token} → Cut y z w v → U (next y) → U (next v) → U (next w)
-fronts U here u h = h
-fronts U (there k) u h = u
 
 -- An L that ends before a token of S begins in one way. It doesn't depend on what stands behind it, but for the place of an empty block at its end.
 pub record Good {A : Type 0} (L : A → List Token → List Token → Type 0) (S : TokenKind → Type 0) : Type 0 where

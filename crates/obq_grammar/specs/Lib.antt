@@ -1,2 +1,3 @@
 pub mod Follow
 pub mod Fails
+pub mod Parts

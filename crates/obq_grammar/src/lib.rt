@@ -7,6 +7,10 @@ ghost use Rattle.obq_base.specs.declared.trees.Block.{Block};
 ghost use Rattle.obq_model.specs.Grammar.{Derives};
 ghost use Rattle.obq_model.specs.Syntax.{IsFirstFault};
 
+mod productions;
+
+pub use productions::{call_is_no_target, fault_behind_block, limit_fails};
+
 /// No tokens derive two trees.
 pub fn one_tree()
     ensures { (tokens : List Token) (a b : Block) → Derives tokens a → Derives tokens b → a ≡ b }

@@ -1,52 +1,16 @@
 -- What several reads and writes in a row do, where bytes are told.
-use Rattle.std.proofs.Common.{ℕ, ◌≡◌, ◌+◌, ◌-◌, ◌≤◌, ◌<◌, List, [], ◌++◌, length, take, drop, Option, None, Some, ap, ap₂, sym, subst, ◌∙◌, arith, append_assoc, length-append}
-use Rattle.std.proofs.lemmas.List.{append-nil, take-append-le}
+use Rattle.std.proofs.Common.{ℕ, ◌≡◌, ◌+◌, ◌-◌, ◌≤◌, List, ◌++◌, length, take, drop, Option, None, Some, ap, ap₂, ◌∙◌, arith, append_assoc, length-append}
+use Rattle.std.proofs.lemmas.List.{take-append-le}
 use Rattle.std.proofs.Math.Seq.{take-add, take-append_seam, drop-append_seam}
 use Rattle.std.proofs.lemmas.Grind.{common_steps}
-use Rattle.std.specs.Io.KnownBytes.{Keeps, Consumes, IsAtEnd, Appends}
-use Rattle.obq_io.specs.Causes.{Rose}
-use Rattle.obq_io.specs.Known.{GetsPrefix, IsIt, WhereTold}
-
-pub consumes_start : (h l : Option (List ℕ)) → Keeps h l → Consumes h l []
-consumes_start None l p = tt
-consumes_start (Some xs) None p = p
-consumes_start (Some xs) (Some ys) p = sym p
-
-pub consumes_more : (h l m : Option (List ℕ)) (bs cs : List ℕ) → Consumes h l bs → Consumes l m cs → Consumes h m (bs ++ cs)
-consumes_more None l m bs cs p q = tt
-consumes_more (Some xs) None m bs cs p q = absurd p
-consumes_more (Some xs) (Some ys) None bs cs p q = q
-consumes_more (Some xs) (Some ys) (Some zs) bs cs p q = p ∙ (ap (λ w. bs ++ w) q ∙ sym (append_assoc bs cs zs))
-
-pub consumes_end : (h l : Option (List ℕ)) (bs : List ℕ) → Consumes h l bs → IsAtEnd l → IsIt h bs
-consumes_end None l bs p e = tt
-consumes_end (Some xs) None bs p e = absurd p
-consumes_end (Some xs) (Some ys) bs p e = sym (p ∙ (ap (λ w. bs ++ w) e ∙ append-nil bs))
-
-pub consumes_long : (h l : Option (List ℕ)) (bs : List ℕ) (n : ℕ) → Consumes h l bs → n < length bs → WhereTold h (λ xs. n < length xs)
-consumes_long None l bs n p lt = tt
-consumes_long (Some xs) None bs n p lt = absurd p
-consumes_long (Some xs) (Some ys) bs n p lt = omega (arith, ap length p, length-append bs ys)
-
-pub appends_start : (h : Option (List ℕ)) → Appends h h []
-appends_start None = tt
-appends_start (Some xs) = sym (append-nil xs)
+use Rattle.std.specs.Io.KnownBytes.{Appends}
+use Rattle.obq_io.specs.Known.{GetsPrefix}
 
 pub appends_more : (a b c : Option (List ℕ)) (bs cs : List ℕ) → Appends a b bs → Appends b c cs → Appends a c (bs ++ cs)
 appends_more None b c bs cs p q = tt
 appends_more (Some xs) None c bs cs p q = absurd p
 appends_more (Some xs) (Some ys) None bs cs p q = q
 appends_more (Some xs) (Some ys) (Some zs) bs cs p q = q ∙ (ap (λ w. w ++ cs) p ∙ append_assoc xs bs cs)
-
-pub rose_after : (a b c : ℕ) → Rose a b → b ≤ c → Rose a c
-rose_after a b c p q = omega arith
-
-pub rose_before : (a b c : ℕ) → a ≤ b → Rose b c → Rose a c
-rose_before a b c p q = omega arith
-
-pub told_is : (h : Option (List ℕ)) (xs : List ℕ) (P : List ℕ → Type 0) → IsIt h xs → P xs → WhereTold h P
-told_is None xs P e p = tt
-told_is (Some ys) xs P e p = subst P e p
 
 -- a slice from a place on
 pub rest_is : (at : ℕ) (xs : List ℕ) → take (length xs - at) (drop at xs) ≡ drop at xs

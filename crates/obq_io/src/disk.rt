@@ -1,4 +1,6 @@
-ghost use Rattle.std.specs.Prelude.{◌-◌, ◌≤◌, ◌^◌, None, Some, [], IsSome, is_some, if◌then◌else◌};
+//! The system's files.
+
+ghost use Rattle.std.specs.Prelude.{◌≡◌, ◌-◌, ◌≤◌, ◌^◌, None, Some, [], IsSome, is_some, if◌then◌else◌};
 ghost use Rattle.obq_io.specs.Causes.{capped, rest_of};
 ghost use Rattle.std.proofs.Common.{arith};
 
@@ -26,7 +28,10 @@ impl<'a, R: rt::Files> Drop for DiskFiles<'a, R> {
 
 impl<'a, R: rt::Files> DiskFiles<'a, R> {
     /// The files of the machine that the handle reaches. None is open, and no count has risen.
-    pub fn new(rt: &'a R) -> DiskFiles<'a, R> {
+    pub fn new(rt: &'a R) -> DiskFiles<'a, R>
+        ensures begun { rest_of result.file ≡ Some [] }
+        ensures faults { result.faults ≡ 0 }
+    {
         DiskFiles {
             rt,
             file: None,

@@ -59,12 +59,14 @@ pub struct MemFiles {
 }
 
 impl MemFiles {
-    /// Files by path; a path that stands twice has the first content. `fails` lists the calls, from 1, that fail.
+    /// Files by path; a path that stands twice has the first content. `fails` lists the calls, from 1, that fail. No
+    /// file is begun.
     pub fn new(files: Vec<(String, Vec<u8>)>, fails: Vec<u64>) -> MemFiles
         ensures files { result.files ≡ files }
         ensures fails { fails_of result ≡ fails.items }
         ensures calls { calls_of result ≡ 0 }
         ensures faults { result.faults ≡ 0 }
+        ensures begun { content_at result.files.items result.at ≡ [] }
     {
         let at = files.len();
         MemFiles {
@@ -155,12 +157,16 @@ pub struct SureFiles {
 }
 
 impl SureFiles {
-    /// Files by path; a path that stands twice has the first content.
+    /// Files by path; a path that stands twice has the first content. No file is begun.
     pub fn new(files: Vec<(String, Vec<u8>)>) -> SureFiles
-        ensures { result.files ≡ files }
+        ensures files { result.files ≡ files }
+        ensures begun { content_at result.files.items result.at ≡ [] }
     {
-        let at = files.len();
-        SureFiles { files, at, from: 0 }
+        SureFiles {
+            at: files.len(),
+            files,
+            from: 0,
+        }
     }
 }
 

@@ -1,6 +1,6 @@
 //! Reading files to a limit.
 
-ghost use Rattle.std.specs.Prelude.{◌≡◌, ◌<◌, ◌≤◌, ◌^◌, ℕ, List, IfOk, MatchResult, length};
+ghost use Rattle.std.specs.Prelude.{◌≡◌, ◌<◌, ◌≤◌, ◌^◌, ◌+◌, ℕ, List, Some, IfErr, IfOk, MatchResult, drop, length, ⊤};
 ghost use Rattle.obq_io.specs.Causes.{Rose};
 ghost use Rattle.obq_io.specs.Known.{IsIt, WhereTold};
 ghost use Rattle.obq_io.specs.Reads.{MatchUnread};
@@ -34,6 +34,7 @@ pub fn read_file<F: Files>(
     ensures whole { IfOk result (λ v. IsIt (F.holds files.old path.now) v.items) }
     ensures bound { IfOk result (λ v. length v.items ≤ limit) }
     ensures unread { MatchResult result (λ v. IsIt (F.holds files.old path.now) v.items) (λ why. MatchUnread why (Rose (F.faults files.old path.now) (F.faults files.new path.now)) (WhereTold (F.holds files.old path.now) (λ xs. limit < length xs))) }
+    ensures stops { IfErr result (λ why. MatchUnread why ⊤ (WhereTold (F.holds files.old path.now) (λ xs. F.left files.new ≡ Some (drop (limit + 1) xs)))) }
 {
     if files.begin(path).is_err() {
         return Err(Unread::Fault);

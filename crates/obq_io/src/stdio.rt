@@ -1,6 +1,6 @@
 //! The system's writers as sinks.
 
-ghost use Rattle.std.specs.Prelude.{◌-◌, ◌≤◌, ◌^◌};
+ghost use Rattle.std.specs.Prelude.{◌≡◌, ◌-◌, ◌≤◌, ◌^◌};
 ghost use Rattle.obq_io.specs.Causes.{capped};
 ghost use Rattle.std.proofs.Common.{arith};
 
@@ -17,7 +17,10 @@ pub struct StdSink<W: Write + Drop> {
 
 impl<W: Write + Drop> StdSink<W> {
     /// A sink that writes to `inner` and counts the writes that it refuses.
-    pub fn new(inner: W) -> StdSink<W> {
+    pub fn new(inner: W) -> StdSink<W>
+        ensures written { W.contents result.inner ≡ W.contents inner }
+        ensures faults { result.faults ≡ 0 }
+    {
         StdSink { inner, faults: 0 }
     }
 }

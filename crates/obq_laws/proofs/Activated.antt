@@ -2,6 +2,7 @@
 use Rattle.std.specs.Prelude.{Bool, List, None, Option, Some, T, [], bytes_eq, drop, false, if◌then◌else◌, int_div, int_lt, int_rem, length, nat_lt, negsuc, not, pos, refl, replicate, suc, take, true, zero, ℕ, ℤ, ◌*ℤ◌, ◌++◌, ◌+ℤ◌, ◌+◌, ◌-ℤ◌, ◌==◌, ◌∷◌, ◌≡◌, ◌≤◌, ◌⊎◌}
 use Rattle.std.proofs.Common.{inl, inr, subst, ap, sym, ◌∙◌, arith, length-append}
 use Rattle.std.proofs.lemmas.Bool.Decides.{nat_tests}
+use Rattle.obq_base.specs.declared.limits.TheConstants.{ARRAY_LIMIT, CLOSURE_LIMIT, TEXT_LIMIT}
 use Rattle.obq_base.specs.declared.trees.Flags.{Flags}
 use Rattle.obq_base.specs.declared.trees.Operator.{Operator}
 use Rattle.obq_model.specs.Terms.{Bytes, Object, Array, Variable, Writer, Condition, Engine, Raised, Exn, ExitUp, Mode, Plain, Held, Inner, Builtin, Not, Exception, FmtInt, FmtBool, TextLength, TextSub, ArrayNew, ArraySize, PutText, NewCondition, SignalOne, SignalAll, Fork, JoinThread, NetExport, NetImport, ExportEngine, ImportEngine, Value, Int, Truth, Okay, Text, Exc, Thread, Closure, Member, Loc, IsMethod, Fields, Kind, Empty, Then, Let, Var, LetRec, Group, Procedure, Assign, If, OrIf, AndIf, Operate, Call, Apply, MakeArray, Index, SetIndex, MakeObject, Select, Invoke, SetValue, SetMethod, SetAlias, Redirect, Clone, Raise, Exit, Loop, For, Foreach, Try, Finally, Watch, Read, Raising, Called, Within, Looping, Counting, EachAt, EachIn, Choosing, Unmet, Finishing, Cloning, Testing, Lined, Out, Term, Const, Name, Under, Form, Parts, End, Part}
@@ -98,14 +99,14 @@ here_call a (Thread n) vs h k = inl refl
 
 here_new_object : {R : Type 0} (a : ℕ) (flags : Flags) (methods : Parts R) (o : Option (Fields R)) → Here a (new_object flags methods o)
 here_new_object a flags methods None = inl refl
-here_new_object a flags methods (Some fields) = here_if a (nat_lt 1000 (deepest_of methods)) (Next closure_limit) (Needs (New (ObjectCell flags None fields) Itself) []) (inl refl) (refl, refl, never)
+here_new_object a flags methods (Some fields) = here_if a (nat_lt CLOSURE_LIMIT (deepest_of methods)) (Next closure_limit) (Needs (New (ObjectCell flags None fields) Itself) []) (inl refl) (refl, refl, never)
 
 here_clone : {R : Type 0} (a : ℕ) (o : Option (List R)) → Here a (Next (clone o))
 here_clone a None = inl refl
 here_clone a (Some os) = inl refl
 
 here_array : {R : Type 0} (a : ℕ) (z : ℤ) (v : Value R) → Here a (array_of_size z v)
-here_array a (pos n) v = here_if a (nat_lt 65536 n) (Next array_limit) (Needs (New (ArrayCell (replicate n v)) Itself) []) (inl refl) (refl, refl, never)
+here_array a (pos n) v = here_if a (nat_lt ARRAY_LIMIT n) (Next array_limit) (Needs (New (ArrayCell (replicate n v)) Itself) []) (inl refl) (refl, refl, never)
 here_array a (negsuc n) v = inl refl
 
 here_fork : {R : Type 0} (a : ℕ) (f : Value R) (o : Option (List Bytes)) → Here a (fork_of f o)
@@ -157,7 +158,7 @@ here_operate a eq Operator.Subtract (Int m) (Int n) = here_number _ a (m -ℤ n)
 here_operate a eq Operator.Multiply (Int m) (Int n) = here_number _ a (m *ℤ n)
 here_operate a eq Operator.Divide (Int m) (Int n) = here_divided _ a int_div m n
 here_operate a eq Operator.Remainder (Int m) (Int n) = here_divided _ a int_rem m n
-here_operate a eq Operator.Join (Text m) (Text n) = term_if a (nat_lt 65536 (length (m ++ n))) text_limit (Const (Text (m ++ n))) (inl refl) (inl refl)
+here_operate a eq Operator.Join (Text m) (Text n) = term_if a (nat_lt TEXT_LIMIT (length (m ++ n))) text_limit (Const (Text (m ++ n))) (inl refl) (inl refl)
 here_operate a eq Operator.Less (Int m) (Int n) = inl refl
 here_operate a eq Operator.LessEqual (Int m) (Int n) = inl refl
 here_operate a eq Operator.Greater (Int m) (Int n) = inl refl
@@ -207,7 +208,7 @@ here_row eq a s Then (v ∷ []) (Part rest End) z h p = inl (source_none rest p.
 here_row eq a s Let (v ∷ []) (Part scope End) z h p = inl (source_none (enter (v ∷ []) scope) (source_enter (v ∷ []) scope h p.0))
 here_row eq a s Var (v ∷ []) (Part scope End) z h p = (refl, refl, never)
 here_row eq a s LetRec [] (Part (Under names (Form Group (Part rest group))) End) z h p =
-    term_if a (nat_lt 1000 (deepest_of group)) closure_limit (put_members names group 0 names rest) (inl refl)
+    term_if a (nat_lt CLOSURE_LIMIT (deepest_of group)) closure_limit (put_members names group 0 names rest) (inl refl)
     (inl (source_none (put_members names group 0 names rest) (source_put_members names group 0 names rest p.0.1.1 p.0.1.0)))
 here_row eq a s Procedure [] (Part (Under params body) End) z h p = term_if a (is_too_deep body) closure_limit (Const (Closure params body)) (inl refl) (inl refl)
 here_row eq a s Assign (v ∷ []) (Part (Form (Read q) End) End) z h p = (refl, refl, never)
@@ -218,7 +219,7 @@ here_row eq a s AndIf (Truth c ∷ []) (Part right End) z h p = term_if a c righ
 here_row eq a s (Operate op) (v ∷ w ∷ []) End z h p = here_operate a eq op v w
 here_row eq a s Call (f ∷ vs) End z h p = here_call a f vs h.0 h.1
 here_row eq a s (Apply q) vs End z h p = here_if a (length vs == arity_of_builtin q) (apply q vs) (Next arity) (here_apply a q vs) (inl refl)
-here_row eq a s MakeArray vs End z h p = here_if a (nat_lt 65536 (length vs)) (Next array_limit) (Needs (New (ArrayCell vs) Itself) []) (inl refl) (refl, refl, never)
+here_row eq a s MakeArray vs End z h p = here_if a (nat_lt ARRAY_LIMIT (length vs)) (Next array_limit) (Needs (New (ArrayCell vs) Itself) []) (inl refl) (refl, refl, never)
 here_row eq a s Index (Loc Array r ∷ Int i ∷ []) End z h p = (refl, refl, never)
 here_row eq a s SetIndex (Loc Array r ∷ Int i ∷ v ∷ []) End z h p = (refl, refl, never)
 here_row eq a s (MakeObject flags shape) vs methods z h p = here_if a (twice (layout_names shape)) (Next field_twice) (new_object flags methods (fields_of shape vs methods)) (inl refl) (here_new_object a flags methods (fields_of shape vs methods))

@@ -1,6 +1,7 @@
 -- What an entry changes, and what the acts of owners need and keep.
-use Rattle.std.specs.Prelude.{Bool, List, None, Option, Some, [], false, if◌then◌else◌, length, nat_lt, not, refl, slice_get, slice_set, suc, true, ℕ, ◌++◌, ◌∷◌, ◌≡◌, ◌||◌, ◌⊎◌}
+use Rattle.std.specs.Prelude.{Bool, List, None, Option, Some, [], false, if◌then◌else◌, length, nat_le, nat_lt, not, refl, slice_get, slice_set, suc, true, ℕ, ◌++◌, ◌∷◌, ◌≡◌, ◌||◌, ◌⊎◌}
 use Rattle.std.proofs.Common.{inl, inr, subst, ap, sym, ◌∙◌}
+use Rattle.obq_base.specs.declared.limits.TheConstants.{THREAD_LIMIT}
 use Rattle.obq_base.specs.declared.acts.ActKind.{ActKind}
 use Rattle.obq_base.specs.declared.acts.Act.{Act}
 use Rattle.obq_model.specs.Terms.{Engine, Held, Value, Thread, Loc, Call, Term, Const, Form, Part, End}
@@ -78,7 +79,7 @@ local_perform k t s (SetItem a i v) = local_on_cell k t s (SetItem a i v) a
 local_perform k t s (ReadVariable l) = local_on_cell k t s (ReadVariable l) l
 local_perform k t s (SetVariable l v) = local_on_cell k t s (SetVariable l v) l
 local_perform k t s (Write w x) = local_on_cell k t s (Write w x) w
-local_perform k t s (ForkOff f) = local_if k.store (nat_lt 63 (length k.threads)) (Acting ActKind.Fork 64 k.store fork_limit) (Forking (length k.threads) (Form Call (Part (Const f) End)) (Const (Thread (length k.threads)))) SameStore tt
+local_perform k t s (ForkOff f) = local_if k.store (nat_le THREAD_LIMIT (length k.threads)) (Acting ActKind.Fork THREAD_LIMIT k.store fork_limit) (Forking (length k.threads) (Form Call (Part (Const f) End)) (Const (Thread (length k.threads)))) SameStore tt
 local_perform k t s (JoinWith u) = local_joined k.store u (slice_get k.threads u)
 local_perform k t s (LineUp o c guard) = local_on_cell k t s (LineUp o c guard) c
 local_perform k t s (GiveUp o c guard) = local_on_cell k t s (GiveUp o c guard) o

@@ -1,7 +1,8 @@
 -- How many turns, threads and cells there are.
-use Rattle.std.specs.Prelude.{Bool, List, None, Option, Some, [], false, if◌then◌else◌, length, max, nat_lt, not, refl, replicate, slice_get, slice_set, suc, true, zero, ℕ, ◌++◌, ◌+◌, ◌<◌, ◌∷◌, ◌≡◌, ◌||◌, ◌≤◌}
+use Rattle.std.specs.Prelude.{Bool, List, None, Option, Some, [], false, if◌then◌else◌, length, max, nat_le, nat_lt, not, refl, replicate, slice_get, slice_set, suc, true, zero, ℕ, ◌++◌, ◌+◌, ◌<◌, ◌∷◌, ◌≡◌, ◌||◌, ◌≤◌}
 use Rattle.std.proofs.Common.{inl, inr, subst, ap, sym, arith}
 use Rattle.std.proofs.lemmas.Bool.Decides.{nat_tests}
+use Rattle.obq_base.specs.declared.limits.TheConstants.{THREAD_LIMIT}
 use Rattle.obq_base.specs.declared.acts.ActKind.{ActKind}
 use Rattle.obq_base.specs.declared.acts.Act.{Act}
 use Rattle.obq_base.specs.Tree.{BlockTree}
@@ -58,7 +59,7 @@ FewFork k Waiting = Unit {0}
 FewFork k (Acting kind loc st focus) = Unit {0}
 FewFork k (Forking loc new focus) = length k.threads < 64
 
-fork_if : (k : Config) (b : Bool) → nat_lt 63 (length k.threads) ≡ b → (x y : Outcome) → FewFork k x → (length k.threads < 64 → FewFork k y) → FewFork k (if b then x else y)
+fork_if : (k : Config) (b : Bool) → nat_le THREAD_LIMIT (length k.threads) ≡ b → (x y : Outcome) → FewFork k x → (length k.threads < 64 → FewFork k y) → FewFork k (if b then x else y)
 fork_if k true e x y h i = h
 fork_if k false e x y h i = i (grind (arith, nat_tests))
 
@@ -89,7 +90,7 @@ fork_imported k st true (Some (Loc Engine e)) = tt
 fork_imported k st true (Some _) = tt
 
 few_fork : (k : Config) (t : ℕ) (s : Self ℕ) (op : Operation ℕ) → FewFork k (perform k t s op)
-few_fork k t s (ForkOff f) = fork_if k (nat_lt 63 (length k.threads)) refl (Acting ActKind.Fork 64 k.store fork_limit) (Forking (length k.threads) (Form Call (Part (Const f) End)) (Const (Thread (length k.threads)))) tt (λ l. l)
+few_fork k t s (ForkOff f) = fork_if k (nat_le THREAD_LIMIT (length k.threads)) refl (Acting ActKind.Fork THREAD_LIMIT k.store fork_limit) (Forking (length k.threads) (Form Call (Part (Const f) End)) (Const (Thread (length k.threads)))) tt (λ l. l)
 few_fork k t s (New cell after) = tt
 few_fork k t s (Get o x) = fork_on_cell k t s (Get o x) o
 few_fork k t s (CallMethod o x vs) = fork_on_cell k t s (CallMethod o x vs) o

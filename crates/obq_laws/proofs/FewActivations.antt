@@ -1,6 +1,7 @@
 -- No thread of a replay has more than 1,000 activations.
-use Rattle.std.specs.Prelude.{Bool, List, None, Option, Some, [], drop, false, if◌then◌else◌, length, nat_lt, negsuc, not, pos, refl, slice_get, slice_set, suc, true, unwrap_or, zero, ℕ, ℤ, ◌++◌, ◌+◌, ◌==◌, ◌∷◌, ◌≡◌, ◌≤◌, ◌||◌, ◌⊎◌}
+use Rattle.std.specs.Prelude.{Bool, List, None, Option, Some, [], drop, false, if◌then◌else◌, length, nat_le, nat_lt, negsuc, not, pos, refl, slice_get, slice_set, suc, true, unwrap_or, zero, ℕ, ℤ, ◌++◌, ◌+◌, ◌==◌, ◌∷◌, ◌≡◌, ◌≤◌, ◌||◌, ◌⊎◌}
 use Rattle.std.proofs.Common.{inl, inr, subst, ap, sym, ◌∙◌, arith}
+use Rattle.obq_base.specs.declared.limits.TheConstants.{THREAD_LIMIT}
 use Rattle.obq_base.specs.declared.acts.ActKind.{ActKind}
 use Rattle.obq_base.specs.declared.acts.Act.{Act}
 use Rattle.obq_base.specs.declared.trees.Flags.{Flags}
@@ -174,7 +175,7 @@ few_perform k t s (SetItem a j v) i h = few_set_item (SetItem a j v) k.store a j
 few_perform k t s (ReadVariable l) i h = inl refl
 few_perform k t s (SetVariable l v) i h = few_set_variable (SetVariable l v) k.store l v (cell_at k.store l)
 few_perform k t s (Write w x) i h = few_write (Write w x) k.store w x (cell_at k.store w)
-few_perform k t s (ForkOff f) i h = few_if (ForkOff f) (nat_lt 63 (length k.threads)) (Acting ActKind.Fork 64 k.store fork_limit) (Forking (length k.threads) (Form Call (Part (Const f) End)) (Const (Thread (length k.threads)))) (inl refl) (refl, refl, refl)
+few_perform k t s (ForkOff f) i h = few_if (ForkOff f) (nat_le THREAD_LIMIT (length k.threads)) (Acting ActKind.Fork THREAD_LIMIT k.store fork_limit) (Forking (length k.threads) (Form Call (Part (Const f) End)) (Const (Thread (length k.threads)))) (inl refl) (refl, refl, refl)
 few_perform k t s (JoinWith u) i h = few_joined (JoinWith u) k.store u (slice_get k.threads u)
 few_perform k t s (LineUp o c guard) i h = few_line (LineUp o c guard) ActKind.Line k.store c (λ line. line ++ t ∷ []) (Form (Lined o c) (Part guard End)) (cell_at k.store c) (inl (sources_none (Part guard End) (h.0, tt)))
 few_perform k t s (GiveUp o c guard) i h = inl (sources_none (Part guard End) (h.0, tt))

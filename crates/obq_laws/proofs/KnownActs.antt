@@ -1,6 +1,7 @@
 -- An act leaves a known store and a known term.
-use Rattle.std.specs.Prelude.{Bool, List, None, Option, Some, [], bytes_eq, drop, false, if◌then◌else◌, length, nat_lt, negsuc, not, pos, refl, slice_get, slice_set, suc, true, unwrap_or, zero, ℕ, ℤ, ◌++◌, ◌==◌, ◌∷◌, ◌≡◌, ◌||◌, ◌≤◌}
+use Rattle.std.specs.Prelude.{Bool, List, None, Option, Some, [], bytes_eq, drop, false, if◌then◌else◌, length, nat_le, nat_lt, negsuc, not, pos, refl, slice_get, slice_set, suc, true, unwrap_or, zero, ℕ, ℤ, ◌++◌, ◌==◌, ◌∷◌, ◌≡◌, ◌||◌, ◌≤◌}
 use Rattle.std.proofs.Common.{subst, sym}
+use Rattle.obq_base.specs.declared.limits.TheConstants.{THREAD_LIMIT}
 use Rattle.obq_base.specs.declared.acts.ActKind.{ActKind}
 use Rattle.obq_base.specs.declared.trees.Flags.{Flags}
 use Rattle.obq_model.specs.Terms.{Bytes, Object, Variable, Engine, Value, Okay, Thread, Loc, FieldBody, IsValue, IsMethod, IsAlias, Fields, Bare, Field, Call, Within, EachIn, Cloning, Lined, Term, Const, Form, End, Part}
@@ -23,7 +24,7 @@ KnownOutcome L T (Forking loc new focus) = IsKnown L T new × IsKnown L T focus
 -- what an operation makes is known
 abbrev pub MakesKnown : Places ℕ → Threads → Config → Operation ℕ → Type 0
 MakesKnown L T k (New cell after) = L (location_kind cell) (length k.store.cells)
-MakesKnown L T k (ForkOff f) = nat_lt 63 (length k.threads) ≡ false → T (length k.threads)
+MakesKnown L T k (ForkOff f) = nat_le THREAD_LIMIT (length k.threads) ≡ false → T (length k.threads)
 MakesKnown L T k op = Unit {0}
 
 abbrev IsKnownSome : Places ℕ → Threads → Option (Cell ℕ) → Type 0
@@ -271,7 +272,7 @@ known_perform L T k t s (ReadVariable l) i ts h m = (i, known_value L T (cell_at
 known_perform L T k t s (SetVariable l v) i ts h m = known_set_variable L T k.store l v (cell_at k.store l) i h.1
 known_perform L T k t s (Write w x) i ts h m = known_write L T k.store w x (cell_at k.store w) i
 known_perform L T k t s (ForkOff f) i ts h m =
-    outcome_unless L T (nat_lt 63 (length k.threads)) (Acting ActKind.Fork 64 k.store fork_limit) (Forking (length k.threads) (Form Call (Part (Const f) End)) (Const (Thread (length k.threads)))) (i, (tt, tt)) (λ n. ((tt, (h, tt)), m n))
+    outcome_unless L T (nat_le THREAD_LIMIT (length k.threads)) (Acting ActKind.Fork THREAD_LIMIT k.store fork_limit) (Forking (length k.threads) (Form Call (Part (Const f) End)) (Const (Thread (length k.threads)))) (i, (tt, tt)) (λ n. ((tt, (h, tt)), m n))
 known_perform L T k t s (JoinWith u) i ts h m = known_joined L T k.store u (slice_get k.threads u) i (thread_known L T k.threads u ts)
 known_perform L T k t s (LineUp o c guard) i ts h m = known_line L T ActKind.Line k.store c (λ line. line ++ t ∷ []) (Form (Lined o c) (Part guard End)) (cell_at k.store c) i ((h.0, h.1), (h.2, tt))
 known_perform L T k t s (GiveUp o c guard) i ts h m = (owned_known L T None k.store o (cell_at k.store o) i (known_get L T k.store.cells o i.0), ((h.0, h.1), (h.2, tt)))

@@ -1,7 +1,8 @@
 -- Every configuration that a journal of a program replays to is known: its locations name cells of their kinds, its thread numbers threads.
-use Rattle.std.specs.Prelude.{Bool, List, None, Option, Some, [], bytes_eq, codes, false, if◌then◌else◌, length, nat_lt, not, refl, replicate, slice_get, slice_set, suc, true, zero, ℕ, ◌&&◌, ◌++◌, ◌+◌, ◌<◌, ◌==◌, ◌∷◌, ◌≡◌, ◌≤◌}
+use Rattle.std.specs.Prelude.{Bool, List, None, Option, Some, [], bytes_eq, codes, false, if◌then◌else◌, length, nat_le, nat_lt, not, refl, replicate, slice_get, slice_set, suc, true, zero, ℕ, ◌&&◌, ◌++◌, ◌+◌, ◌<◌, ◌==◌, ◌∷◌, ◌≡◌, ◌≤◌}
 use Rattle.std.proofs.Common.{subst, ap, sym, ◌∙◌, arith}
 use Rattle.std.proofs.lemmas.Bool.{eqb-true, eqb-false}
+use Rattle.obq_base.specs.declared.limits.TheConstants.{THREAD_LIMIT}
 use Rattle.obq_base.specs.declared.acts.Act.{Act}
 use Rattle.obq_base.specs.declared.acts.ActKind.{ActKind}
 use Rattle.obq_base.specs.declared.trees.Operator.{Operator}
@@ -177,9 +178,9 @@ makes_acts : (k : Config) (t : ℕ) (s : Self ℕ) (op : Operation ℕ) (kind : 
 makes_acts k t s (New cell after) kind loc st focus T2 p =
     let same : with_new_cell k.store cell ≡ st = cc p in
     subst (λ (x : Store ℕ). IsPlace x (location_kind cell) (length k.store.cells)) same (subst (HasKind (location_kind cell)) (sym (push_same k.store.cells cell)) refl)
-makes_acts k t s (ForkOff f) kind loc st focus T2 p = λ n. absurd (by (nat_lt 63 (length k.threads)) n p)
+makes_acts k t s (ForkOff f) kind loc st focus T2 p = λ n. absurd (by (nat_le THREAD_LIMIT (length k.threads)) n p)
   where
-    by : (b : Bool) → b ≡ false → (if b then Acting ActKind.Fork 64 k.store fork_limit else Forking (length k.threads) (Form Call (Part (Const f) End)) (Const (Thread (length k.threads)))) ≡ Acting kind loc st focus → ⊥
+    by : (b : Bool) → b ≡ false → (if b then Acting ActKind.Fork THREAD_LIMIT k.store fork_limit else Forking (length k.threads) (Form Call (Part (Const f) End)) (Const (Thread (length k.threads)))) ≡ Acting kind loc st focus → ⊥
     by true e q = absurd (cc e)
     by false e q = absurd (cc q)
 makes_acts k t s op kind loc st focus T2 p = tt

@@ -3,6 +3,7 @@ use Rattle.std.specs.Prelude.{Bool, List, None, Option, Some, [], bytes_eq, drop
 use Rattle.std.proofs.Common.{subst, ap, sym, arith}
 use Rattle.std.proofs.lemmas.Bool.{eqb-true}
 use Rattle.std.proofs.lemmas.Bool.Decides.{nat_tests}
+use Rattle.obq_base.specs.declared.limits.TheConstants.{ARRAY_LIMIT, CLOSURE_LIMIT, TEXT_LIMIT}
 use Rattle.obq_base.specs.declared.trees.Flags.{Flags}
 use Rattle.obq_base.specs.declared.trees.Operator.{Operator}
 use Rattle.obq_model.specs.Terms.{Bytes, Object, Array, Variable, Writer, Condition, Engine, Raised, Exn, ExitUp, Mode, Plain, Held, Inner, Builtin, Not, Exception, FmtInt, FmtBool, TextLength, TextSub, ArrayNew, ArraySize, PutText, NewCondition, SignalOne, SignalAll, Fork, JoinThread, NetExport, NetImport, ExportEngine, ImportEngine, Layout, NoLayout, ValueField, MethodField, AliasField, Value, Int, Truth, Okay, Text, Exc, Thread, Closure, Member, Loc, FieldBody, IsValue, IsMethod, IsAlias, Fields, Kind, Empty, Then, Let, Var, LetRec, Group, Procedure, Assign, If, OrIf, AndIf, Operate, Call, Apply, MakeArray, Index, SetIndex, MakeObject, Select, Invoke, SetValue, SetMethod, SetAlias, Redirect, Clone, Raise, Exit, Loop, For, Foreach, Try, Finally, Watch, Read, Raising, Called, Within, Looping, Counting, EachAt, EachIn, Choosing, Unmet, Finishing, Cloning, Testing, Lined, Out, Term, Const, Name, Under, Form, Parts, End, Part}
@@ -132,7 +133,7 @@ known_fields L T _ _ _ k d h = tt
 known_new_object : {R : Type 0} (L : Places R) (T : Threads) (flags : Flags) (methods : Parts R) (o : Option (Fields R)) → (deepest_of methods ≤ 1000 → AreKnownIf L T o) → IsKnownFound L T (new_object flags methods o)
 known_new_object L T flags methods None h = (tt, tt)
 known_new_object L T flags methods (Some fields) h =
-    found_unless L T (nat_lt 1000 (deepest_of methods)) (Next closure_limit) (Needs (New (ObjectCell flags None fields) Itself) []) (tt, tt) (λ n. ((h (within 1000 (deepest_of methods) n), tt), tt))
+    found_unless L T (nat_lt CLOSURE_LIMIT (deepest_of methods)) (Next closure_limit) (Needs (New (ObjectCell flags None fields) Itself) []) (tt, tt) (λ n. ((h (within 1000 (deepest_of methods) n), tt), tt))
 
 known_make_object : {R : Type 0} (L : Places R) (T : Threads) (flags : Flags) (s : Layout) (vs : List (Value R)) (methods : Parts R) → AllKnown L T vs → AreKnown L T methods → IsKnownFound L T (make_object flags s vs methods)
 known_make_object L T flags s vs methods k h =
@@ -166,7 +167,7 @@ replicate_length (suc n) v = ap suc (replicate_length n v)
 
 known_array : {R : Type 0} (L : Places R) (T : Threads) (z : ℤ) (v : Value R) → IsKnownValue L T v → IsKnownFound L T (array_of_size z v)
 known_array L T (pos n) v h =
-    found_unless L T (nat_lt 65536 n) (Next array_limit) (Needs (New (ArrayCell (replicate n v)) Itself) []) (tt, tt) (λ l. (((subst (λ m. m ≤ 65536) (sym (replicate_length n v)) (within 65536 n l), known_replicate L T n v h), tt), tt))
+    found_unless L T (nat_lt ARRAY_LIMIT n) (Next array_limit) (Needs (New (ArrayCell (replicate n v)) Itself) []) (tt, tt) (λ l. (((subst (λ m. m ≤ 65536) (sym (replicate_length n v)) (within 65536 n l), known_replicate L T n v h), tt), tt))
 known_array L T (negsuc n) v h = (tt, tt)
 
 known_fork : {R : Type 0} (L : Places R) (T : Threads) (f : Value R) (o : Option (List Bytes)) → IsKnownValue L T f → IsKnownFound L T (fork_of f o)
@@ -218,7 +219,7 @@ known_operate L T eq Operator.Subtract (Int a) (Int b) = known_number L T (a -�
 known_operate L T eq Operator.Multiply (Int a) (Int b) = known_number L T (a *ℤ b)
 known_operate L T eq Operator.Divide (Int a) (Int b) = known_divided L T int_div a b
 known_operate L T eq Operator.Remainder (Int a) (Int b) = known_divided L T int_rem a b
-known_operate L T eq Operator.Join (Text a) (Text b) = known_if L T (nat_lt 65536 (length (a ++ b))) text_limit (Const (Text (a ++ b))) (tt, tt) tt
+known_operate L T eq Operator.Join (Text a) (Text b) = known_if L T (nat_lt TEXT_LIMIT (length (a ++ b))) text_limit (Const (Text (a ++ b))) (tt, tt) tt
 known_operate L T eq Operator.Less (Int a) (Int b) = tt
 known_operate L T eq Operator.LessEqual (Int a) (Int b) = tt
 known_operate L T eq Operator.Greater (Int a) (Int b) = tt
@@ -266,7 +267,7 @@ known_row L T eq a s Then (v ∷ []) (Part rest End) z l h p = p.0
 known_row L T eq a s Let (v ∷ []) (Part scope End) z l h p = known_enter L T (v ∷ []) scope h p.0
 known_row L T eq a s Var (v ∷ []) (Part scope End) z l h p = ((h.0, (refl, p.0)), tt)
 known_row L T eq a s LetRec [] (Part (Under names (Form Group (Part rest group))) End) z l h p =
-    term_unless L T (nat_lt 1000 (deepest_of group)) closure_limit (put_members names group 0 names rest) (tt, tt)
+    term_unless L T (nat_lt CLOSURE_LIMIT (deepest_of group)) closure_limit (put_members names group 0 names rest) (tt, tt)
     (λ n. known_put_members L T names group 0 names rest (all_names (length names)) (within 1000 (deepest_of group) n) p.0.1.1 p.0.1.0)
 known_row L T eq a s Procedure [] (Part (Under params body) End) z l h p = term_unless L T (is_too_deep body) closure_limit (Const (Closure params body)) (tt, tt) (λ n. (within 1000 (deepest body) n, p.0))
 known_row L T eq a s Assign (v ∷ []) (Part (Form (Read q) End) End) z l h p = ((p.0.0, h.0), tt)
@@ -277,7 +278,7 @@ known_row L T eq a s AndIf (Truth c ∷ []) (Part right End) z l h p = known_if 
 known_row L T eq a s (Operate op) (v ∷ w ∷ []) End z l h p = known_operate L T eq op v w
 known_row L T eq a s Call (f ∷ vs) End z l h p = found_if L T (is_callable f && is_call_limit a) (Next call_limit) (call_value f vs) (tt, tt) (known_call_value L T f vs h.0 h.1)
 known_row L T eq a s (Apply q) vs End z l h p = found_if L T (length vs == arity_of_builtin q) (apply q vs) (Next arity) (known_apply L T q vs h) (tt, tt)
-known_row L T eq a s MakeArray vs End z l h p = found_unless L T (nat_lt 65536 (length vs)) (Next array_limit) (Needs (New (ArrayCell vs) Itself) []) (tt, tt) (λ n. (((within 65536 (length vs) n, h), tt), tt))
+known_row L T eq a s MakeArray vs End z l h p = found_unless L T (nat_lt ARRAY_LIMIT (length vs)) (Next array_limit) (Needs (New (ArrayCell vs) Itself) []) (tt, tt) (λ n. (((within 65536 (length vs) n, h), tt), tt))
 known_row L T eq a s Index (Loc Array r ∷ Int i ∷ []) End z l h p = (h.0, tt)
 known_row L T eq a s SetIndex (Loc Array r ∷ Int i ∷ v ∷ []) End z l h p = ((h.0, h.1.1.0), tt)
 known_row L T eq a s (MakeObject flags shape) vs methods z l h p = known_make_object L T flags shape vs methods h p

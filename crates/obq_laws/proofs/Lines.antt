@@ -1,7 +1,8 @@
 -- Which threads stand in the lines of conditions.
-use Rattle.std.specs.Prelude.{Bool, List, None, Option, Some, T, [], drop, false, if◌then◌else◌, length, nat_lt, not, refl, replicate, slice_get, slice_set, suc, true, zero, ℕ, ◌++◌, ◌<◌, ◌==◌, ◌∷◌, ◌≡◌, ◌||◌}
+use Rattle.std.specs.Prelude.{Bool, List, None, Option, Some, T, [], drop, false, if◌then◌else◌, length, nat_le, nat_lt, not, refl, replicate, slice_get, slice_set, suc, true, zero, ℕ, ◌++◌, ◌<◌, ◌==◌, ◌∷◌, ◌≡◌, ◌||◌}
 use Rattle.std.proofs.Common.{inl, inr, subst, ap, sym, ◌∙◌, arith}
 use Rattle.std.proofs.lemmas.Bool.{eqb-true, eqb-false}
+use Rattle.obq_base.specs.declared.limits.TheConstants.{THREAD_LIMIT}
 use Rattle.obq_base.specs.declared.acts.ActKind.{ActKind}
 use Rattle.obq_base.specs.declared.acts.Act.{Act}
 use Rattle.obq_base.specs.Tree.{BlockTree}
@@ -138,7 +139,7 @@ lines_perform k t s (SetItem a i v) h = lines_on_cell k t s (SetItem a i v) a re
 lines_perform k t s (ReadVariable l) h = lines_on_cell k t s (ReadVariable l) l refl
 lines_perform k t s (SetVariable l v) h = lines_on_cell k t s (SetVariable l v) l refl
 lines_perform k t s (Write w x) h = lines_on_cell k t s (Write w x) w refl
-lines_perform k t s (ForkOff f) h = lines_if t (ForkOff f) k.store (nat_lt 63 (length k.threads)) (Acting ActKind.Fork 64 k.store fork_limit) (Forking (length k.threads) (Form Call (Part (Const f) End)) (Const (Thread (length k.threads)))) (λ p. refl) tt
+lines_perform k t s (ForkOff f) h = lines_if t (ForkOff f) k.store (nat_le THREAD_LIMIT (length k.threads)) (Acting ActKind.Fork THREAD_LIMIT k.store fork_limit) (Forking (length k.threads) (Form Call (Part (Const f) End)) (Const (Thread (length k.threads)))) (λ p. refl) tt
 lines_perform k t s (JoinWith u) h = lines_joined t k.store u (slice_get k.threads u)
 lines_perform k t s (LineUp o c guard) h = lines_on_cell k t s (LineUp o c guard) c refl
 lines_perform k t s (GiveUp o c guard) h = lines_on_cell k t s (GiveUp o c guard) o refl

@@ -1,6 +1,7 @@
 -- What an act does to the owners of objects.
-use Rattle.std.specs.Prelude.{Bool, List, None, Option, Some, T, [], drop, false, if◌then◌else◌, is_none, length, nat_lt, negsuc, not, pos, refl, slice_get, slice_set, suc, true, unwrap_or, zero, ℕ, ℤ, ◌&&◌, ◌++◌, ◌==◌, ◌||◌, ◌∷◌, ◌≡◌, ◌⊎◌}
+use Rattle.std.specs.Prelude.{Bool, List, None, Option, Some, T, [], drop, false, if◌then◌else◌, is_none, length, nat_le, nat_lt, negsuc, not, pos, refl, slice_get, slice_set, suc, true, unwrap_or, zero, ℕ, ℤ, ◌&&◌, ◌++◌, ◌==◌, ◌||◌, ◌∷◌, ◌≡◌, ◌⊎◌}
 use Rattle.std.proofs.Common.{inl, inr, subst, ap, sym, ◌∙◌}
+use Rattle.obq_base.specs.declared.limits.TheConstants.{THREAD_LIMIT}
 use Rattle.obq_base.specs.declared.acts.ActKind.{ActKind}
 use Rattle.obq_base.specs.declared.trees.Flags.{Flags}
 use Rattle.obq_model.specs.Terms.{Bytes, Object, Engine, Plain, Held, Inner, Value, Okay, Thread, Loc, FieldBody, IsValue, IsMethod, IsAlias, Fields, Call, Within, EachIn, Cloning, Lined, Term, Const, Form, Parts, End, Part}
@@ -227,7 +228,7 @@ owners_perform k t s (SetItem a i v) c h = owners_set_item t k.store a i v (cell
 owners_perform k t s (ReadVariable l) c h = stays k.store
 owners_perform k t s (SetVariable l v) c h = owners_set_variable t k.store l v (cell_at k.store l) refl
 owners_perform k t s (Write w text) c h = owners_write t k.store w text (cell_at k.store w) refl
-owners_perform k t s (ForkOff f) c h = owners_if t (ForkOff f) k.store (nat_lt 63 (length k.threads)) (Acting ActKind.Fork 64 k.store fork_limit) (Forking (length k.threads) (Form Call (Part (Const f) End)) (Const (Thread (length k.threads)))) (stays k.store) tt
+owners_perform k t s (ForkOff f) c h = owners_if t (ForkOff f) k.store (nat_le THREAD_LIMIT (length k.threads)) (Acting ActKind.Fork THREAD_LIMIT k.store fork_limit) (Forking (length k.threads) (Form Call (Part (Const f) End)) (Const (Thread (length k.threads)))) (stays k.store) tt
 owners_perform k t s (JoinWith v) c h = owners_joined t k.store v (slice_get k.threads v)
 owners_perform k t s (LineUp o q guard) c h = line_kept t (LineUp o q guard) ActKind.Line k.store q (λ line. line ++ t ∷ []) (Form (Lined o q) (Part guard End)) (cell_at k.store q) refl (λ st' e. e)
 owners_perform k t s (GiveUp o q guard) c h = (owned_none k.store o (cell_at k.store o) refl, owned_but None k.store o (cell_at k.store o))

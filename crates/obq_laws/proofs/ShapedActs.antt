@@ -1,5 +1,6 @@
 -- An act of a rightly shaped configuration gives one.
-use Rattle.std.specs.Prelude.{Bool, List, None, Option, Some, [], bytes_eq, drop, false, if◌then◌else◌, length, nat_lt, negsuc, not, pos, slice_get, slice_set, suc, true, unwrap_or, zero, ℕ, ℤ, ◌++◌, ◌==◌, ◌||◌, ◌∷◌}
+use Rattle.std.specs.Prelude.{Bool, List, None, Option, Some, [], bytes_eq, drop, false, if◌then◌else◌, length, nat_le, nat_lt, negsuc, not, pos, slice_get, slice_set, suc, true, unwrap_or, zero, ℕ, ℤ, ◌++◌, ◌==◌, ◌||◌, ◌∷◌}
+use Rattle.obq_base.specs.declared.limits.TheConstants.{THREAD_LIMIT}
 use Rattle.obq_base.specs.declared.acts.ActKind.{ActKind}
 use Rattle.obq_base.specs.declared.trees.Flags.{Flags}
 use Rattle.obq_model.specs.Terms.{Bytes, Object, Variable, Engine, Value, Okay, Thread, Loc, FieldBody, IsValue, IsMethod, IsAlias, Fields, Bare, Field, Call, Within, EachIn, Cloning, Lined, Term, Const, Form, End, Part}
@@ -250,7 +251,7 @@ shaped_perform k t s (ReadVariable l) c h = (c.0, shaped_value (cell_at k.store 
 shaped_perform k t s (SetVariable l v) c h = shaped_set_variable k.store l v (cell_at k.store l) c.0 h
 shaped_perform k t s (Write w text) c h = shaped_write k.store w text (cell_at k.store w) c.0
 shaped_perform k t s (ForkOff f) c h =
-    outcome_if (nat_lt 63 (length k.threads)) (Acting ActKind.Fork 64 k.store fork_limit) (Forking (length k.threads) (Form Call (Part (Const f) End)) (Const (Thread (length k.threads))))
+    outcome_if (nat_le THREAD_LIMIT (length k.threads)) (Acting ActKind.Fork THREAD_LIMIT k.store fork_limit) (Forking (length k.threads) (Form Call (Part (Const f) End)) (Const (Thread (length k.threads))))
     (c.0, (tt, tt)) ((tt, (h, tt)), tt)
 shaped_perform k t s (JoinWith u) c h = shaped_joined k.store u k.threads u c.0 c.1
 shaped_perform k t s (LineUp o q guard) c h = shaped_line ActKind.Line k.store q (λ line. line ++ t ∷ []) (Form (Lined o q) (Part guard End)) (cell_at k.store q) c.0 (tt, (h, tt))

@@ -2,6 +2,7 @@
 use Rattle.std.specs.Prelude.{Bool, List, None, Option, Some, [], bytes_eq, drop, false, if◌then◌else◌, int_div, int_lt, int_rem, length, nat_lt, negsuc, not, pos, refl, replicate, suc, take, true, unwrap_or, zero, ℕ, ℤ, ◌&&◌, ◌*ℤ◌, ◌++◌, ◌+ℤ◌, ◌+◌, ◌-ℤ◌, ◌<◌, ◌==◌, ◌∷◌, ◌≡◌}
 use Rattle.std.proofs.Common.{subst, ap, sym, arith}
 use Rattle.std.proofs.lemmas.Bool.{eqb-true, lt-ltb, ltb-true}
+use Rattle.obq_base.specs.declared.limits.TheConstants.{ARRAY_LIMIT, CLOSURE_LIMIT, TEXT_LIMIT}
 use Rattle.obq_base.specs.declared.trees.Flags.{Flags}
 use Rattle.obq_base.specs.declared.trees.Operator.{Operator}
 use Rattle.obq_model.specs.Terms.{Bytes, Object, Array, Writer, Condition, Engine, Raised, Exn, ExitUp, Mode, Plain, Held, Inner, Builtin, Not, Exception, FmtInt, FmtBool, TextLength, TextSub, ArrayNew, ArraySize, PutText, NewCondition, SignalOne, SignalAll, Fork, JoinThread, NetExport, NetImport, ExportEngine, ImportEngine, Layout, NoLayout, ValueField, MethodField, AliasField, Value, Int, Truth, Okay, Text, Exc, Thread, Closure, Loc, FieldBody, IsValue, IsMethod, IsAlias, Fields, Kind, Empty, Then, Let, Var, LetRec, Group, Procedure, Assign, If, OrIf, AndIf, Operate, Call, Apply, MakeArray, Index, SetIndex, MakeObject, Select, Invoke, SetValue, SetMethod, SetAlias, Redirect, Clone, Raise, Exit, Loop, For, Foreach, Try, Finally, Watch, Read, Raising, Called, Within, Looping, Counting, EachAt, EachIn, Choosing, Unmet, Finishing, Cloning, Testing, Lined, Out, Term, Const, Name, Under, Form, Parts, End, Part}
@@ -109,7 +110,7 @@ shaped_fields _ _ _ k h = tt
 
 shaped_new_object : {R : Type 0} (flags : Flags) (methods : Parts R) (o : Option (Fields R)) → AreShapedIn o → ShapedFound (new_object flags methods o)
 shaped_new_object flags methods None h = (tt, tt)
-shaped_new_object flags methods (Some fields) h = found_if (nat_lt 1000 (deepest_of methods)) (Next closure_limit) (Needs (New (ObjectCell flags None fields) Itself) []) (tt, tt) (needs (New (ObjectCell flags None fields) Itself) (h, tt))
+shaped_new_object flags methods (Some fields) h = found_if (nat_lt CLOSURE_LIMIT (deepest_of methods)) (Next closure_limit) (Needs (New (ObjectCell flags None fields) Itself) []) (tt, tt) (needs (New (ObjectCell flags None fields) Itself) (h, tt))
 
 shaped_clone : {R : Type 0} (o : Option (List R)) → IsShaped (clone o)
 shaped_clone None = (tt, tt)
@@ -120,7 +121,7 @@ shaped_replicate zero v h = tt
 shaped_replicate (suc n) v h = (h, shaped_replicate n v h)
 
 shaped_array : {R : Type 0} (z : ℤ) (v : Value R) → IsShapedValue v → ShapedFound (array_of_size z v)
-shaped_array (pos n) v h = found_if (nat_lt 65536 n) (Next array_limit) (Needs (New (ArrayCell (replicate n v)) Itself) []) (tt, tt) (needs (New (ArrayCell (replicate n v)) Itself) (shaped_replicate n v h, tt))
+shaped_array (pos n) v h = found_if (nat_lt ARRAY_LIMIT n) (Next array_limit) (Needs (New (ArrayCell (replicate n v)) Itself) []) (tt, tt) (needs (New (ArrayCell (replicate n v)) Itself) (shaped_replicate n v h, tt))
 shaped_array (negsuc n) v h = (tt, tt)
 
 shaped_fork : {R : Type 0} (f : Value R) (o : Option (List Bytes)) → IsShapedValue f → ShapedFound (fork_of f o)
@@ -172,7 +173,7 @@ shaped_operate eq Operator.Subtract (Int a) (Int b) = shaped_number _ (a -ℤ b)
 shaped_operate eq Operator.Multiply (Int a) (Int b) = shaped_number _ (a *ℤ b)
 shaped_operate eq Operator.Divide (Int a) (Int b) = shaped_divided _ int_div a b
 shaped_operate eq Operator.Remainder (Int a) (Int b) = shaped_divided _ int_rem a b
-shaped_operate eq Operator.Join (Text a) (Text b) = next_if (nat_lt 65536 (length (a ++ b))) text_limit (Const (Text (a ++ b))) (tt, tt) tt
+shaped_operate eq Operator.Join (Text a) (Text b) = next_if (nat_lt TEXT_LIMIT (length (a ++ b))) text_limit (Const (Text (a ++ b))) (tt, tt) tt
 shaped_operate eq Operator.Less (Int a) (Int b) = tt
 shaped_operate eq Operator.LessEqual (Int a) (Int b) = tt
 shaped_operate eq Operator.Greater (Int a) (Int b) = tt
@@ -221,7 +222,7 @@ shaped_row eq a s Then (v ∷ []) (Part rest End) c h = h.1.0
 shaped_row eq a s Let (v ∷ []) (Part scope End) c h = shaped_enter (v ∷ []) scope (h.0, tt) (one_scope scope h.1.0)
 shaped_row eq a s Var (v ∷ []) (Part scope End) c h = needs (New (VariableCell v) (Entered scope)) (h.0, h.1.0)
 shaped_row eq a s LetRec [] (Part (Under names (Form Group (Part rest group))) End) c h =
-    next_if (nat_lt 1000 (deepest_of group)) closure_limit (put_members names group 0 names rest) (tt, tt) (shaped_put_members names group 0 names rest h.1 h.0)
+    next_if (nat_lt CLOSURE_LIMIT (deepest_of group)) closure_limit (put_members names group 0 names rest) (tt, tt) (shaped_put_members names group 0 names rest h.1 h.0)
 shaped_row eq a s Procedure [] (Part (Under params body) End) c h = next_if (is_too_deep body) closure_limit (Const (Closure params body)) (tt, tt) h.0
 shaped_row eq a s Assign (v ∷ []) (Part (Form (Read l) End) End) c h = needs (SetVariable l v) h.0
 shaped_row eq a s Assign (v ∷ []) (Part target End) c h = (tt, tt)
@@ -231,7 +232,7 @@ shaped_row eq a s AndIf (Truth b ∷ []) (Part right End) c h = next_if b right 
 shaped_row eq a s (Operate op) (v ∷ w ∷ []) End c h = shaped_operate eq op v w
 shaped_row eq a s Call (f ∷ vs) End c h = found_if (is_callable f && is_call_limit a) (Next call_limit) (call_value f vs) (tt, tt) (shaped_call_value f vs h.0 (values_shaped vs End h.1))
 shaped_row eq a s (Apply q) vs End c h = found_if (length vs == arity_of_builtin q) (apply q vs) (Next arity) (shaped_apply q vs (values_shaped vs End h)) (tt, tt)
-shaped_row eq a s MakeArray vs End c h = found_if (nat_lt 65536 (length vs)) (Next array_limit) (Needs (New (ArrayCell vs) Itself) []) (tt, tt) (needs (New (ArrayCell vs) Itself) (values_shaped vs End h, tt))
+shaped_row eq a s MakeArray vs End c h = found_if (nat_lt ARRAY_LIMIT (length vs)) (Next array_limit) (Needs (New (ArrayCell vs) Itself) []) (tt, tt) (needs (New (ArrayCell vs) Itself) (values_shaped vs End h, tt))
 shaped_row eq a s Index (Loc Array r ∷ Int i ∷ []) End c h = needs (GetItem r i) tt
 shaped_row eq a s SetIndex (Loc Array r ∷ Int i ∷ v ∷ []) End c h = needs (SetItem r i v) h.1.1.0
 shaped_row eq a s (MakeObject flags layout) vs methods c h =

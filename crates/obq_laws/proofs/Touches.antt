@@ -1,6 +1,7 @@
 -- Which act an operation is, and where it is done.
-use Rattle.std.specs.Prelude.{Bool, List, None, Option, Some, T, [], drop, false, if◌then◌else◌, is_none, length, nat_lt, negsuc, not, pos, refl, slice_get, slice_set, suc, true, unwrap_or, ℕ, ℤ, ◌++◌, ◌==◌, ◌||◌, ◌∷◌, ◌≡◌, ◌⊎◌}
+use Rattle.std.specs.Prelude.{Bool, List, None, Option, Some, T, [], drop, false, if◌then◌else◌, is_none, length, nat_le, nat_lt, negsuc, not, pos, refl, slice_get, slice_set, suc, true, unwrap_or, ℕ, ℤ, ◌++◌, ◌==◌, ◌||◌, ◌∷◌, ◌≡◌, ◌⊎◌}
 use Rattle.std.proofs.Common.{inl, inr, subst, sym}
+use Rattle.obq_base.specs.declared.limits.TheConstants.{THREAD_LIMIT}
 use Rattle.obq_base.specs.declared.acts.ActKind.{ActKind}
 use Rattle.obq_base.specs.declared.trees.Flags.{Flags}
 use Rattle.obq_model.specs.Terms.{Bytes, Object, Engine, Value, Okay, Thread, Loc, FieldBody, IsValue, IsMethod, IsAlias, Fields, Call, Within, EachIn, Cloning, Lined, Term, Const, Form, End, Part}
@@ -265,7 +266,7 @@ act_of k t s (SetVariable l v) = of_set_variable k.store s l v (perform k t s (S
 act_of k t s (Write w x) = of_write k.store s w x (perform k t s (Write w x)) (elsewhere_write k.store w x (cell_at k.store w))
 act_of k t s (ForkOff f) =
     of_fork k.store s f (perform k t s (ForkOff f))
-    (elsewhere_if (nat_lt 63 (length k.threads)) (Acting ActKind.Fork 64 k.store fork_limit) (Forking (length k.threads) (Form Call (Part (Const f) End)) (Const (Thread (length k.threads)))) ((refl, refl), (refl, refl)) tt)
+    (elsewhere_if (nat_le THREAD_LIMIT (length k.threads)) (Acting ActKind.Fork THREAD_LIMIT k.store fork_limit) (Forking (length k.threads) (Form Call (Part (Const f) End)) (Const (Thread (length k.threads)))) ((refl, refl), (refl, refl)) tt)
 act_of k t s (JoinWith u) = of_join k.store s u (perform k t s (JoinWith u)) (elsewhere_joined k.store u (slice_get k.threads u))
 act_of k t s (LineUp o q guard) = of_line_up k.store s o q guard (perform k t s (LineUp o q guard)) (elsewhere_line ActKind.Line k.store q (λ line. line ++ t ∷ []) (Form (Lined o q) (Part guard End)) (cell_at k.store q) ((refl, refl), (refl, refl)))
 act_of k t s (GiveUp o q guard) = (refl, refl)

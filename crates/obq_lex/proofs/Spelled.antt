@@ -7,6 +7,7 @@ use Rattle.std.specs.Str.{bytes_eq}
 use Rattle.std.specs.Char.{is_ascii_alphabetic, is_ascii_digit}
 use Rattle.std.proofs.lemmas.Bool.{and_parts, and_from, leb-false, both_ways, eq-eqb}
 use Rattle.std.proofs.lemmas.Bool.Decides.{nat_tests}
+use Rattle.obq_base.specs.declared.limits.TheConstants.{TEXT_LIMIT}
 use Rattle.obq_base.specs.declared.faults.LexKind.TheVariants.{Real, IntRange, Stray}
 use Rattle.obq_tables.specs.Tables.{symbols}
 use Rattle.obq_model.specs.Tokens.{IsContent, Lexeme, Word, Number, Literal, Mark, Spells, word, number, minus, literal, mark, IsLongest, IsToken, IsFault, real, int_range, stray, is_word, are_digits, is_word_byte, begins, opens_comment, begins_fraction, is_in_range}
@@ -91,7 +92,7 @@ number_token ds x r h n e i f = record { outside = digits_no_comment ds x r h e;
 pub minus_token : (ds x r : List ℕ) → are_digits ds ≡ true → begins is_ascii_digit r ≡ false → x ≡ ds ++ r → is_in_range true ds ≡ true → begins_fraction r ≡ false → IsToken (Number true ds) (126 ∷ x) r
 minus_token ds x r h n e i f = record { outside = no_comment 126 x refl; there = longest_minus ds x r h n e; sound = (i, f) }
 
-pub text_token : (v y r : List ℕ) → IsContent v y (34 ∷ r) → length v ≤ 65536 → IsToken (Literal v) (34 ∷ y) r
+pub text_token : (v y r : List ℕ) → IsContent v y (34 ∷ r) → length v ≤ TEXT_LIMIT → IsToken (Literal v) (34 ∷ y) r
 text_token v y r g l = record { outside = no_comment 34 y refl; there = record { spelled = literal g; longest = λ m s t. literal_reach g t (starts t) }; sound = l }
 
 not_first : (p : ℕ → Bool) (x : List ℕ) (b : ℕ) (y : List ℕ) → begins p x ≡ false → x ≡ b ∷ y → p b ≡ true → ⊥

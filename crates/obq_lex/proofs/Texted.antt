@@ -1,5 +1,6 @@
 -- What stands in a text.
 use Rattle.std.proofs.Common.{◌≡◌, ℕ, ◌<◌, ◌≤◌, true, false, List, [], ◌∷◌, length, Some, None, sym, ap, ◌∙◌, subst, is_some}
+use Rattle.obq_base.specs.declared.limits.TheConstants.{TEXT_LIMIT}
 use Rattle.obq_base.specs.declared.faults.LexKind.TheVariants.{BadEscape, NotAscii, Stray, OpenText}
 use Rattle.obq_model.specs.Tokens.{IsContent, nothing, plain, escaped, escape, is_plain, begins_escape, IsFault, bad_escape, high_in_text, stray_in_text, open_line, open_end}
 use Rattle.obq_lex.specs.Scans.{IsRefused}
@@ -22,8 +23,8 @@ refused_high b x r h e = subst (λ z. IsRefused NotAscii z) (sym e) (λ v y g l.
 pub refused_stray : (b : ℕ) (x r : List ℕ) → b < 128 → is_plain b ≡ false → (b ≡ 10 → ⊥) → (b ≡ 34 → ⊥) → (b ≡ 92 → ⊥) → x ≡ b ∷ r → IsRefused Stray x
 refused_stray b x r h p i j k e = subst (λ z. IsRefused Stray z) (sym e) (λ v y g l. stray_in_text g l h p i j k)
 
-pub line_open : (v y x r : List ℕ) → IsContent v y x → length v ≤ 65536 → x ≡ 10 ∷ r → IsFault OpenText (34 ∷ y) (34 ∷ y)
+pub line_open : (v y x r : List ℕ) → IsContent v y x → length v ≤ TEXT_LIMIT → x ≡ 10 ∷ r → IsFault OpenText (34 ∷ y) (34 ∷ y)
 line_open v y x r g l e = open_line (subst (λ z. IsContent v y z) e g) l
 
-pub end_open : (v y x : List ℕ) → IsContent v y x → length v ≤ 65536 → x ≡ [] → IsFault OpenText (34 ∷ y) (34 ∷ y)
+pub end_open : (v y x : List ℕ) → IsContent v y x → length v ≤ TEXT_LIMIT → x ≡ [] → IsFault OpenText (34 ∷ y) (34 ∷ y)
 end_open v y x g l e = open_end (subst (λ z. IsContent v y z) e g) l

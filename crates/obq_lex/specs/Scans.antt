@@ -1,6 +1,7 @@
 -- What each part of the lexer answers, by the definition of tokens.
 use Rattle.std.specs.Prelude.{◌≡◌, ◌≢◌, ◌<◌, ◌≤◌, ◌⊎◌, ◌==◌, nat_le, ℕ, ℤ, Bool, true, false, IsTrue, List, [], ◌∷◌, ◌++◌, length, position, Option, Some, None, Result, Ok, Err}
 use Rattle.std.specs.Str.{bytes_eq}
+use Rattle.obq_base.specs.declared.limits.TheConstants.{TEXT_LIMIT}
 use Rattle.obq_tables.specs.Tables.{symbols}
 use Rattle.std.specs.Borrow.{Bor}
 use Rattle.std.specs.Char.{is_ascii_alphabetic, is_ascii_digit}
@@ -34,7 +35,7 @@ ReadsComment x (Err s) = Fails (40 ∷ 42 ∷ x) s
 
 -- a text that reads up to x has this fault
 abbrev pub IsRefused : LexKind → List ℕ → Type 0
-IsRefused kind x = (v y : List ℕ) → IsContent v y x → length v ≤ 65536 → IsFault kind (34 ∷ y) x
+IsRefused kind x = (v y : List ℕ) → IsContent v y x → length v ≤ TEXT_LIMIT → IsFault kind (34 ∷ y) x
 
 abbrev pub TextStep : List ℕ → InText → Type 0
 TextStep x (text.Byte e r) = IsContent (e ∷ []) x r.now
@@ -44,7 +45,7 @@ TextStep x (text.Refused kind) = IsRefused kind x
 
 -- x stands behind the opening mark
 abbrev pub ReadsText : List ℕ → Result (List ℕ × Bor (List ℕ)) Stop → Type 0
-ReadsText x (Ok p) = IsContent p.0 x (34 ∷ p.1.now) × (length p.0 ≤ 65536)
+ReadsText x (Ok p) = IsContent p.0 x (34 ∷ p.1.now) × (length p.0 ≤ TEXT_LIMIT)
 ReadsText x (Err s) = Fails (34 ∷ x) s
 
 abbrev pub ReadsInteger : Bool → List ℕ → Option ℤ → Type 0

@@ -6,12 +6,10 @@ ghost use Rattle.obq_lex.specs.Lexes.{Lexes, refused_at};
 
 use crate::pieces::{Piece, piece_at};
 use crate::stops::Stop;
+use obq_base::limits::{NESTING_LIMIT, SOURCE_LIMIT};
 use obq_base::{LexKind, Token, TokenKind};
 use obq_tables::{Nesting, keyword_rows, symbol_rows};
 use std::alloc::Global;
-
-/// How many openers may stand around a place.
-const MOST_NESTED: u32 = 200;
 
 /// Why a source has no tokens.
 #[derive(Clone, Copy, Debug, PartialEq, Eq)]
@@ -38,7 +36,7 @@ fn token_nesting(kind: &TokenKind) -> Nesting
 }
 
 fn nested(nesting: Nesting, depth: u32) -> u32
-    requires { depth ≤ 200 }
+    requires { depth ≤ NESTING_LIMIT }
     ensures { result ≡ nested nesting depth }
 {
     match nesting {
@@ -50,7 +48,7 @@ fn nested(nesting: Nesting, depth: u32) -> u32
 
 /// The answer for what stopped the reading of a source of so many bytes.
 fn refused(len: usize, stop: Stop) -> LexRefused
-    requires { len ≤ 1048576 }
+    requires { len ≤ SOURCE_LIMIT }
     ensures { result ≡ refused_at len stop }
 {
     match stop {
@@ -64,7 +62,7 @@ fn refused(len: usize, stop: Stop) -> LexRefused
 
 /// The tokens of a source, with the end token behind them at the place of the source's end.
 pub fn lex(alloc: Global, source: &[u8]) -> Result<Vec<Token>, LexRefused>
-    requires { length source.now ≤ 1048576 }
+    requires { length source.now ≤ SOURCE_LIMIT }
     ensures exact { Lexes source.now result }
     ensures ended { IfOk result (λ tokens. IsEnded tokens.items) }
     ensures few { IfOk result (λ tokens. length tokens.items ≤ length source.now + 1) }
@@ -79,7 +77,7 @@ pub fn lex(alloc: Global, source: &[u8]) -> Result<Vec<Token>, LexRefused>
                 Piece::Blank(after) => rest = after,
                 Piece::Token(kind, after) => {
                     let deeper = nested(token_nesting(&kind), depth);
-                    if deeper > MOST_NESTED {
+                    if deeper > NESTING_LIMIT {
                         return Err(LexRefused::Fault {
                             kind: LexKind::TooDeep,
                             place,

@@ -5,11 +5,9 @@ ghost use Rattle.obq_model.specs.Tokens.{escape, is_plain};
 ghost use Rattle.obq_lex.specs.Scans.{ReadsText, TextStep};
 
 use crate::stops::{Stop, cut};
+use obq_base::limits::TEXT_LIMIT;
 use obq_base::{LexKind, Text};
 use std::alloc::Global;
-
-/// How many bytes a text has at most.
-const MOST_BYTES: usize = 65_536;
 
 /// What stands next in a text.
 pub enum InText<'a> {
@@ -87,7 +85,7 @@ pub fn read_text(alloc: Global, x: &[u8]) -> Result<(Text, &[u8]), Stop>
     loop {
         match step(rest) {
             InText::Byte(byte, after) => {
-                if bytes.len() == MOST_BYTES {
+                if bytes.len() == TEXT_LIMIT {
                     return Err(Stop::Fault {
                         kind: LexKind::LongText,
                         left: x.len() + 1,

@@ -2,6 +2,7 @@
 use Rattle.std.proofs.Common.{◌≡◌, ◌⊎◌, inl, inr, ℕ, ◌<◌, ◌≤◌, Bool, true, false, ◌&&◌, ◌==◌, cond, nat_le, List, [], ◌∷◌, ◌++◌, length, Some, refl, sym, ap, ◌∙◌, arith, subst, append_assoc, length-append}
 use Rattle.std.specs.Prelude.{position}
 use Rattle.std.specs.Str.{bytes_eq}
+use Rattle.obq_base.specs.declared.limits.TheConstants.{TEXT_LIMIT}
 use Rattle.obq_tables.specs.Tables.{symbols}
 use Rattle.std.specs.List.{list_all}
 use Rattle.std.specs.Char.{is_ascii_alphabetic, is_ascii_digit}
@@ -22,7 +23,7 @@ text_verdict x (b ∷ s) = cond (b == 10) (OpenText, 34 ∷ x) (cond (nat_le 128
 
 -- a fault in a text, behind its opening mark
 pub data TextRow (x : List ℕ) : LexKind → List ℕ → Type 0 where
-  stops : {k : LexKind} {v s z : List ℕ} → IsContent v x s → length v ≤ 65536 → begins_content s ≡ false → begins (λ b. b == 34) s ≡ false → text_verdict x s ≡ (k, z) → TextRow x k z
+  stops : {k : LexKind} {v s z : List ℕ} → IsContent v x s → length v ≤ TEXT_LIMIT → begins_content s ≡ false → begins (λ b. b == 34) s ≡ false → text_verdict x s ≡ (k, z) → TextRow x k z
   passes : {v s : List ℕ} → IsContent v x s → length v ≡ 65537 → TextRow x LongText (34 ∷ x)
 
 -- a fault of an integer
@@ -88,7 +89,7 @@ view (open_comment g) = open_view (open_scan g)
 view (stray_in_text {b = b} {x = x} {z = z} g l h p i j n) = text_view (stops g l (stray_content b z p n) (ne_eqb b 34 j) (stray_verdict b x z h i n))
 view (stray h w n s) = stray_view h w n s
 
-too_long : {u v x s z : List ℕ} → IsContent v x s → length v ≤ 65536 → begins_content s ≡ false → IsContent u x z → length u ≡ 65537 → ⊥
+too_long : {u v x s z : List ℕ} → IsContent v x s → length v ≤ TEXT_LIMIT → begins_content s ≡ false → IsContent u x z → length u ≡ 65537 → ⊥
 too_long {u = u} g l n h m = let q = meets h g n in let e = ap length q.2 in omega (arith, length-append u q.0)
 
 same_pair : {j k : LexKind} {y z : List ℕ} {p q : LexKind × List ℕ} → p ≡ (j, y) → p ≡ q → q ≡ (k, z) → (j ≡ k) × (y ≡ z)
@@ -249,7 +250,7 @@ blank_view (remark (comment g)) (number_view s) = no_number 40 refl (λ e. omega
 blank_view (remark (comment g)) (high_view h) = omega arith
 blank_view (remark (comment {x = x} g)) (stray_view h w n s) = s (Mark 2) (42 ∷ x) (bracket (42 ∷ x))
 
-closed_text : {k : LexKind} {v x r z : List ℕ} → IsContent v x (34 ∷ r) → length v ≤ 65536 → TextRow x k z → ⊥
+closed_text : {k : LexKind} {v x r z : List ℕ} → IsContent v x (34 ∷ r) → length v ≤ TEXT_LIMIT → TextRow x k z → ⊥
 closed_text g l (stops h m n o e) = both_ways true (ap (begins (λ b. b == 34)) (content_unique g refl h n).1 ∙ o) refl
 closed_text g l (passes h m) = too_long g l refl h m
 

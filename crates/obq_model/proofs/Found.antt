@@ -2,6 +2,7 @@
 use Rattle.std.specs.Prelude.{Bool, List, None, Option, Some, [], false, if◌then◌else◌, length, nat_lt, negsuc, pos, refl, replicate, suc, true, ℕ, ℤ, ◌&&◌, ◌++◌, ◌==◌, ◌<◌, ◌≤◌, ◌∷◌, ◌≡◌, ◌⊎◌}
 use Rattle.std.proofs.Common.{inl, inr, subst, ap, sym, ◌∙◌, arith, length-append}
 use Rattle.std.proofs.lemmas.Bool.Decides.{nat_tests}
+use Rattle.obq_base.specs.declared.limits.TheConstants.{ARRAY_LIMIT, CLOSURE_LIMIT}
 use Rattle.obq_base.specs.declared.trees.Flags.{Flags}
 use Rattle.obq_model.specs.Terms.{Bytes, Object, Array, Writer, Condition, Engine, Raised, Exn, ExitUp, Mode, Plain, Held, Inner, Builtin, Not, Exception, FmtInt, FmtBool, TextLength, TextSub, ArrayNew, ArraySize, PutText, NewCondition, SignalOne, SignalAll, Fork, JoinThread, NetExport, NetImport, ExportEngine, ImportEngine, Layout, Value, Int, Truth, Okay, Text, Exc, Thread, Loc, IsMethod, Fields, Kind, Empty, Then, Let, Var, LetRec, Group, Procedure, Assign, If, OrIf, AndIf, Operate, Call, Apply, MakeArray, Index, SetIndex, MakeObject, Select, Invoke, SetValue, SetMethod, SetAlias, Redirect, Clone, Raise, Exit, Loop, For, Foreach, Try, Finally, Watch, Read, Raising, Called, Within, Looping, Counting, EachAt, EachIn, Choosing, Unmet, Finishing, Cloning, Testing, Lined, Out, Term, Const, Name, Under, Form, Parts, End, Part}
 use Rattle.obq_model.specs.Depth.{deepest_of, is_too_deep}
@@ -45,13 +46,13 @@ here_call a f vs = here_if (is_callable f && is_call_limit a) (Next call_limit) 
 
 here_new_object : {R : Type 0} (x0 : Flags) (x1 : Parts R) (x2 : Option (Fields R)) → IsHere (new_object x0 x1 x2)
 here_new_object flags methods None = tt
-here_new_object flags methods (Some fields) = here_if (nat_lt 1000 (deepest_of methods)) (Next closure_limit) (Needs (New (ObjectCell flags None fields) Itself) []) tt tt
+here_new_object flags methods (Some fields) = here_if (nat_lt CLOSURE_LIMIT (deepest_of methods)) (Next closure_limit) (Needs (New (ObjectCell flags None fields) Itself) []) tt tt
 
 here_make_object : {R : Type 0} (x0 : Flags) (x1 : Layout) (x2 : List (Value R)) (x3 : Parts R) → IsHere (make_object x0 x1 x2 x3)
 here_make_object flags shape vs methods = here_if (twice (layout_names shape)) (Next field_twice) (new_object flags methods (fields_of shape vs methods)) tt (here_new_object flags methods (fields_of shape vs methods))
 
 here_array_of_size : {R : Type 0} (x0 : ℤ) (x1 : Value R) → IsHere (array_of_size x0 x1)
-here_array_of_size (pos n) v = here_if (nat_lt 65536 n) (Next array_limit) (Needs (New (ArrayCell (replicate n v)) Itself) []) tt tt
+here_array_of_size (pos n) v = here_if (nat_lt ARRAY_LIMIT n) (Next array_limit) (Needs (New (ArrayCell (replicate n v)) Itself) []) tt tt
 here_array_of_size (negsuc n) v = tt
 
 here_fork_of : {R : Type 0} (x0 : Value R) (x1 : Option (List Bytes)) → IsHere (fork_of x0 x1)
@@ -118,7 +119,7 @@ here_row eq a s AndIf (Truth b ∷ []) (Part right End) = tt
 here_row eq a s (Operate op) (v ∷ w ∷ []) End = tt
 here_row eq a s Call (f ∷ vs) End = here_call a f vs
 here_row eq a s (Apply b) vs End = here_if (length vs == arity_of_builtin b) (apply b vs) (Next arity) (here_apply b vs) tt
-here_row eq a s MakeArray vs End = here_if (nat_lt 65536 (length vs)) (Next array_limit) (Needs (New (ArrayCell vs) Itself) []) tt tt
+here_row eq a s MakeArray vs End = here_if (nat_lt ARRAY_LIMIT (length vs)) (Next array_limit) (Needs (New (ArrayCell vs) Itself) []) tt tt
 here_row eq a s Index (Loc Array r ∷ Int i ∷ []) End = tt
 here_row eq a s SetIndex (Loc Array r ∷ Int i ∷ v ∷ []) End = tt
 here_row eq a s (MakeObject flags shape) vs methods = here_make_object flags shape vs methods

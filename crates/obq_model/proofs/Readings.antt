@@ -1,8 +1,7 @@
 -- Readings grow at their end, and pieces have at least one byte.
 use Rattle.std.proofs.Common.{◌≡◌, ℕ, ◌<◌, ◌≤◌, List, [], ◌∷◌, ◌++◌, length, true, ap, arith, length-append}
 use Rattle.obq_base.specs.declared.tokens.Token.{Token}
-use Rattle.obq_base.specs.declared.faults.LexKind.{LexKind}
-use Rattle.obq_model.specs.Tokens.{Lexeme, Spells, word, number, minus, literal, mark, IsOpen, inside, opened, IsBlank, white, remark, IsFault, high, high_in_text, high_in_comment, real, int_range, open_line, open_end, long_text, bad_escape, open_comment, stray_in_text, stray, IsToken, IsRead, done, blank, token, kind_of, nested_by, token_at}
+use Rattle.obq_model.specs.Tokens.{Lexeme, Spells, word, number, minus, literal, mark, IsOpen, inside, opened, IsBlank, white, remark, IsToken, IsRead, done, blank, token, kind_of, nested_by, token_at}
 use Rattle.obq_model.proofs.Contents.{content_length}
 use Rattle.obq_model.proofs.Comments.{inside_length, comment_length}
 use Rattle.obq_model.proofs.Spellings.{is_key, symbol_is_key}
@@ -35,18 +34,3 @@ blank_length (remark c) = comment_length c
 open_length : {x r : List ℕ} → IsOpen x r → length r ≤ length x
 open_length (inside h) = inside_length h
 open_length (opened h k) = let m = inside_length h in let n = open_length k in omega arith
-
--- a fault's place isn't before the piece
-pub fault_length : {k : LexKind} {x z : List ℕ} → IsFault k x z → length z ≤ length x
-fault_length (high h) = omega arith
-fault_length (high_in_text g s h) = let n = content_length g in omega arith
-fault_length (high_in_comment g h) = let n = open_length g in omega arith
-fault_length (real s h) = omega arith
-fault_length (int_range s h g) = omega arith
-fault_length (open_line g s) = omega arith
-fault_length (open_end g s) = omega arith
-fault_length (long_text g s) = omega arith
-fault_length (bad_escape g s h) = let n = content_length g in omega arith
-fault_length (open_comment g) = omega arith
-fault_length (stray_in_text g s h i j k l) = let n = content_length g in omega arith
-fault_length (stray h i j k) = omega arith

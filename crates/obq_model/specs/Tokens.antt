@@ -4,6 +4,7 @@ use Rattle.std.specs.Prelude.{◌≡◌, ◌≢◌, ◌+◌, ◌-◌, ◌*◌, �
 use Rattle.std.specs.List.{list_all}
 use Rattle.std.specs.Str.{bytes_eq}
 use Rattle.std.specs.Char.{is_ascii_alphabetic, is_ascii_digit}
+use Rattle.obq_base.specs.declared.limits.TheConstants.{NESTING_LIMIT, TEXT_LIMIT}
 use Rattle.obq_base.specs.declared.tokens.Token.{Token}
 use Rattle.obq_base.specs.declared.tokens.TokenKind.{TokenKind}
 use Rattle.obq_base.specs.declared.tokens.TokenKind.TheVariants as t
@@ -138,18 +139,18 @@ begins_escape x = begins (λ c. is_some (escape c)) x
 -- A fault stands at x; its place is where z is left. Nesting apart, these are all.
 pub data IsFault : LexKind → List ℕ → List ℕ → Type 0 where
   high : {b : ℕ} {x : List ℕ} → 128 ≤ b → IsFault NotAscii (b ∷ x) (b ∷ x)
-  high_in_text : {b : ℕ} {v x z : List ℕ} → IsContent v x (b ∷ z) → length v ≤ 65536 → 128 ≤ b → IsFault NotAscii (34 ∷ x) (b ∷ z)
+  high_in_text : {b : ℕ} {v x z : List ℕ} → IsContent v x (b ∷ z) → length v ≤ TEXT_LIMIT → 128 ≤ b → IsFault NotAscii (34 ∷ x) (b ∷ z)
   high_in_comment : {b : ℕ} {x z : List ℕ} → IsOpen x (b ∷ z) → 128 ≤ b → IsFault NotAscii (40 ∷ 42 ∷ x) (b ∷ z)
   real : {m : Bool} {ds x r : List ℕ} → Spells (Number m ds) x r → IsTrue (begins_fraction r) → IsFault Real x x
   int_range : {m : Bool} {ds x r : List ℕ} → IsLongest (Number m ds) x r → begins_fraction r ≡ false → is_in_range m ds ≡ false → IsFault IntRange x x
   -- byte 10, or the end of the source
-  open_line : {v x z : List ℕ} → IsContent v x (10 ∷ z) → length v ≤ 65536 → IsFault OpenText (34 ∷ x) (34 ∷ x)
-  open_end : {v x : List ℕ} → IsContent v x [] → length v ≤ 65536 → IsFault OpenText (34 ∷ x) (34 ∷ x)
+  open_line : {v x z : List ℕ} → IsContent v x (10 ∷ z) → length v ≤ TEXT_LIMIT → IsFault OpenText (34 ∷ x) (34 ∷ x)
+  open_end : {v x : List ℕ} → IsContent v x [] → length v ≤ TEXT_LIMIT → IsFault OpenText (34 ∷ x) (34 ∷ x)
   long_text : {v x z : List ℕ} → IsContent v x z → length v ≡ 65537 → IsFault LongText (34 ∷ x) (34 ∷ x)
-  bad_escape : {v x z : List ℕ} → IsContent v x (92 ∷ z) → length v ≤ 65536 → begins_escape z ≡ false → IsFault BadEscape (34 ∷ x) (92 ∷ z)
+  bad_escape : {v x z : List ℕ} → IsContent v x (92 ∷ z) → length v ≤ TEXT_LIMIT → begins_escape z ≡ false → IsFault BadEscape (34 ∷ x) (92 ∷ z)
   open_comment : {x : List ℕ} → IsOpen x [] → IsFault OpenComment (40 ∷ 42 ∷ x) (40 ∷ 42 ∷ x)
   -- any other byte that isn't allowed in a text
-  stray_in_text : {b : ℕ} {v x z : List ℕ} → IsContent v x (b ∷ z) → length v ≤ 65536 → b < 128 → is_plain b ≡ false → b ≢ 10 → b ≢ 34 → b ≢ 92 → IsFault Stray (34 ∷ x) (b ∷ z)
+  stray_in_text : {b : ℕ} {v x z : List ℕ} → IsContent v x (b ∷ z) → length v ≤ TEXT_LIMIT → b < 128 → is_plain b ≡ false → b ≢ 10 → b ≢ 34 → b ≢ 92 → IsFault Stray (34 ∷ x) (b ∷ z)
   -- any other byte that begins no token
   stray : {b : ℕ} {x : List ℕ} → b < 128 → is_white b ≡ false → b ≢ 34 → ((m : Lexeme) (s : List ℕ) → Spells m (b ∷ x) s → ⊥) → IsFault Stray (b ∷ x) (b ∷ x)
 
@@ -157,7 +158,7 @@ pub data IsFault : LexKind → List ℕ → List ℕ → Type 0 where
 abbrev pub IsSound : Lexeme → List ℕ → Type 0
 IsSound (Word w) r = Unit {0}
 IsSound (Number m ds) r = IsTrue (is_in_range m ds) × (begins_fraction r ≡ false)
-IsSound (Literal v) r = length v ≤ 65536
+IsSound (Literal v) r = length v ≤ TEXT_LIMIT
 IsSound (Mark k) r = Unit {0}
 
 -- a piece that is a token, and can be read
@@ -207,7 +208,7 @@ end_token source = record { kind = t.EndOfSource; place = length source }
 pub data IsRead (n : ℕ) : List Token → ℕ → List ℕ → ℕ → List ℕ → Type 0 where
   done : {d : ℕ} {x : List ℕ} → IsRead n [] d x d x
   blank : {ts : List Token} {d e : ℕ} {x y z : List ℕ} → IsBlank x y → IsRead n ts d y e z → IsRead n ts d x e z
-  token : {l : Lexeme} {ts : List Token} {d e : ℕ} {x y z : List ℕ} → IsToken l x y → nested_by l d ≤ 200 → IsRead n ts (nested_by l d) y e z → IsRead n (token_at n (kind_of l) x ∷ ts) d x e z
+  token : {l : Lexeme} {ts : List Token} {d e : ℕ} {x y z : List ℕ} → IsToken l x y → nested_by l d ≤ NESTING_LIMIT → IsRead n ts (nested_by l d) y e z → IsRead n (token_at n (kind_of l) x ∷ ts) d x e z
 
 -- the tokens of a source that can be read whole, with the end token
 pub data IsReading (source : List ℕ) : List Token → Type 0 where
@@ -217,7 +218,7 @@ pub data IsReading (source : List ℕ) : List Token → Type 0 where
 pub data IsFirstFault (source : List ℕ) : LexKind → ℕ → Type 0 where
   fault : {k : LexKind} {ts : List Token} {e : ℕ} {x z : List ℕ} → IsRead (length source) ts 0 source e x → IsFault k x z → IsFirstFault source k (place_of (length source) z)
   -- an opener that would make the nesting 201
-  too_deep : {l : Lexeme} {ts : List Token} {e : ℕ} {x y : List ℕ} → IsRead (length source) ts 0 source e x → IsToken l x y → 200 < nested_by l e → IsFirstFault source TooDeep (place_of (length source) x)
+  too_deep : {l : Lexeme} {ts : List Token} {e : ℕ} {x y : List ℕ} → IsRead (length source) ts 0 source e x → IsToken l x y → NESTING_LIMIT < nested_by l e → IsFirstFault source TooDeep (place_of (length source) x)
 
 -- the first fact for the end token, else the second
 abbrev pub IfEnd : TokenKind → Type 0 → Type 0 → Type 0
@@ -232,7 +233,7 @@ IsEnded (t ∷ ts) = IfEnd t.kind (ts ≡ []) (IsEnded ts)
 -- The nesting, which is d before the first token, is at most 200 behind each.
 abbrev pub IsShallow : ℕ → List Token → Type 0
 IsShallow d [] = Unit {0}
-IsShallow d (t ∷ ts) = (nested (token_nesting t.kind) d ≤ 200) × IsShallow (nested (token_nesting t.kind) d) ts
+IsShallow d (t ∷ ts) = (nested (token_nesting t.kind) d ≤ NESTING_LIMIT) × IsShallow (nested (token_nesting t.kind) d) ts
 
 -- Each place stands before the next, the first of them from p on.
 abbrev pub IsAscending : ℕ → List Token → Type 0

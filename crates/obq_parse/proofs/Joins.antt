@@ -15,9 +15,9 @@ use Rattle.obq_model.specs.Grammar.{IsBlock, IsExpr, IsFieldBody, IsItem, IsLeve
 use Rattle.obq_grammar.specs.Fails.{Fails}
 use Rattle.obq_grammar.specs.Follow.{among, continues, operators, EndsExpr, EndsItem, EndsLevel, No}
 use Rattle.obq_grammar.proofs.Sets.{no_both}
-use Rattle.obq_sequence.specs.Parts.{IsRest}
-use Rattle.obq_sequence.proofs.Levels.{expr_at_1, rest_at_2}
-use Rattle.obq_sequence.proofs.Items.{assign_at_3, assign_end, assign_of, name_target, set_field_at_3, set_field_end, set_field_of, set_item_at_3, set_item_end, set_item_of}
+use Rattle.obq_grammar.specs.Parts.{IsRest}
+use Rattle.obq_grammar.proofs.failing.Levels.{expr_at_1, rest_at_2}
+use Rattle.obq_grammar.proofs.failing.Items.{assign_at_3, assign_end, assign_of, name_target, set_field_at_3, set_field_end, set_field_of, set_item_at_3, set_item_end, set_item_of}
 use Rattle.obq_parts.specs.declared.steps.Refused.{Refused}
 use Rattle.obq_parts.specs.declared.steps.Refused.TheVariants.{Syntax, NoMemory}
 use Rattle.obq_parts.specs.declared.targets.Chain.{Chain}

@@ -16,10 +16,10 @@ use Rattle.obq_model.specs.Grammar.{IsBlock, IsDotted, IsNoOpen, IsObject, IsPri
 use Rattle.obq_grammar.specs.Fails.{Fails}
 use Rattle.obq_grammar.specs.Follow.{among, is_word, Anything, EndsBlock, EndsElsifs, EndsGuards, EndsSuffixed, No, Yes}
 use Rattle.obq_grammar.proofs.Sets.{no_both, no_open}
-use Rattle.obq_sequence.proofs.Primaries.{paren_at_2, paren_at_3, paren_of}
-use Rattle.obq_sequence.proofs.Lets.{try_at_3, try_of}
-use Rattle.obq_sequence.proofs.Stops.{headed, proc_of_at_1}
-use Rattle.obq_sequence.proofs.Suffixes.{dotted_at_3, dotted_of}
+use Rattle.obq_grammar.proofs.failing.Primaries.{paren_at_2, paren_at_3, paren_of}
+use Rattle.obq_grammar.proofs.failing.Lets.{try_at_3, try_of}
+use Rattle.obq_grammar.proofs.failing.Stops.{headed, proc_of_at_1}
+use Rattle.obq_grammar.proofs.failing.Suffixes.{dotted_at_3, dotted_of}
 use Rattle.obq_parts.specs.declared.openings.Opening.{Opening}
 use Rattle.obq_parts.specs.declared.steps.Refused.{Refused}
 use Rattle.obq_parts.specs.Closed.{ReadsUntil}

@@ -7,7 +7,7 @@ use Rattle.obq_model.specs.Nodes.{next}
 use Rattle.obq_model.specs.Grammar.{IsExpr, IsLevel, IsSuffixed}
 use Rattle.obq_grammar.specs.Fails.{Fails}
 use Rattle.obq_grammar.specs.Follow.{EndsExpr, EndsSuffixed}
-use Rattle.obq_sequence.specs.Parts.{IsChain, IsRest}
+use Rattle.obq_grammar.specs.Parts.{IsChain, IsRest}
 use Rattle.obq_parts.specs.Reads.{Faulty}
 use Rattle.obq_parts.specs.declared.steps.Refused.{Refused}
 use Rattle.obq_parts.specs.declared.targets.Chain.{Chain}

@@ -14,8 +14,8 @@ use Rattle.obq_grammar.specs.Fails.{Fails}
 use Rattle.obq_grammar.specs.Follow.{No, is_word, continues, EndsExpr, EndsNames, EndsArgs}
 use Rattle.obq_grammar.proofs.Theory.{Leads, step, after, at}
 use Rattle.obq_grammar.proofs.Sets.{no_both}
-use Rattle.obq_sequence.proofs.Bindings.{names_at_2, names_of, one_name_of, binds_at_2, one_bind_of, rec_binds_at_2, one_rec_bind_of}
-use Rattle.obq_sequence.proofs.Fields.{args_at_2, one_arg_of, fields_at_2, one_field_of}
+use Rattle.obq_grammar.proofs.failing.Bindings.{names_at_2, names_of, one_name_of, binds_at_2, one_bind_of, rec_binds_at_2, one_rec_bind_of}
+use Rattle.obq_grammar.proofs.failing.Fields.{args_at_2, one_arg_of, fields_at_2, one_field_of}
 
 -- behind an expression without a comma
 pub ends_args : (x : List Token) → EndsExpr (next x) → No (is_word sym_comma (next x)) → EndsArgs (next x)

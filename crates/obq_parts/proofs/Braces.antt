@@ -9,9 +9,9 @@ use Rattle.obq_model.specs.Words.{kw_protected, kw_serialized, row_protected, ro
 use Rattle.obq_model.specs.Grammar.{flags, IsBothFlags, IsFlagged, IsObject}
 use Rattle.obq_grammar.specs.Fails.{Fails}
 use Rattle.obq_grammar.specs.Follow.{Anything, is_word, No}
-use Rattle.obq_sequence.specs.Parts.{IsFlagsAndFields, IsFlagAndFields}
-use Rattle.obq_sequence.proofs.Fields.{flags_fields_at_2, flags_fields_at_3, flags_fields_of}
-use Rattle.obq_sequence.proofs.Objects.{unflagged_at_1, unflagged_at_2, unflagged_of, protected_at_2, protected_of, serialized_at_2, serialized_of, flag_fields_at_2, flag_fields_at_3, flag_fields_of, other_flag_at_3, other_flag_of}
+use Rattle.obq_grammar.specs.Parts.{IsFlagsAndFields, IsFlagAndFields}
+use Rattle.obq_grammar.proofs.failing.Fields.{flags_fields_at_2, flags_fields_at_3, flags_fields_of}
+use Rattle.obq_grammar.proofs.failing.Objects.{unflagged_at_1, unflagged_at_2, unflagged_of, protected_at_2, protected_of, serialized_at_2, serialized_of, flag_fields_at_2, flag_fields_at_3, flag_fields_of, other_flag_at_3, other_flag_of}
 use Rattle.obq_parts.specs.declared.objects.ObjectHead.{ObjectHead}
 use Rattle.obq_parts.specs.declared.objects.ObjectHead.TheVariants as h
 use Rattle.obq_parts.specs.Objects.{Opens, Heads, IsBoth, IsOne, BothHead, FlaggedHead, HeadOf}

@@ -8,7 +8,7 @@ use Rattle.obq_model.specs.Words.{sym_close_brace}
 use Rattle.obq_model.specs.Grammar.{flags, IsBothFlags, IsFields, IsFlagged, IsObject}
 use Rattle.obq_grammar.specs.Fails.{Fails}
 use Rattle.obq_grammar.specs.Follow.{Anything, EndsArgs, is_word, No}
-use Rattle.obq_sequence.specs.Parts.{IsFlagsAndFields, IsFlagAndFields}
+use Rattle.obq_grammar.specs.Parts.{IsFlagsAndFields, IsFlagAndFields}
 use Rattle.obq_parts.specs.declared.objects.ObjectHead.{ObjectHead}
 use Rattle.obq_parts.specs.declared.objects.ObjectHead.TheVariants as h
 

@@ -9,6 +9,7 @@ ghost use Rattle.obq_parts.specs.Reads.{Reads};
 
 use crate::steps::{Refused, take_any};
 use obq_base::{Expr, Token, TokenKind};
+use obq_tables::rows::{KW_EXIT, KW_FALSE, KW_OK, KW_TRUE};
 use std::alloc::Global;
 
 /// The expression that a keyword is alone.
@@ -16,13 +17,13 @@ fn keyword_literal(row: u32, place: u32) -> Option<Expr>
     ensures { IsWordLiteral row place result }
 {
     match row {
-        31 => Some(Expr::Truth { value: true, place }),
-        9 => Some(Expr::Truth {
+        KW_TRUE => Some(Expr::Truth { value: true, place }),
+        KW_FALSE => Some(Expr::Truth {
             value: false,
             place,
         }),
-        21 => Some(Expr::Okay { place }),
-        8 => Some(Expr::Exit { place }),
+        KW_OK => Some(Expr::Okay { place }),
+        KW_EXIT => Some(Expr::Exit { place }),
         _ => None,
     }
 }

@@ -6,11 +6,7 @@ ghost use Rattle.obq_parts.specs.Objects.{BothHead, FlaggedHead, HeadOf, IsShort
 use crate::steps::{Word, take_word};
 use crate::words::{CLOSE_BRACE, COMMA};
 use obq_base::{Flags, Token};
-
-// Rows of the table of keywords.
-const PROTECTED: u32 = 24;
-
-const SERIALIZED: u32 = 28;
+use obq_tables::rows::{KW_PROTECTED, KW_SERIALIZED};
 
 /// What an object begins with, behind its opening brace.
 pub enum ObjectHead<'a> {
@@ -69,19 +65,19 @@ pub fn read_object_head(tokens: &[Token]) -> ObjectHead<'_>
     if let Some((_, rest)) = take_word(CLOSE_BRACE, tokens) {
         return ObjectHead::Closed(none, rest);
     }
-    if let Some((_, rest)) = take_word(Word::Keyword(PROTECTED), tokens) {
+    if let Some((_, rest)) = take_word(Word::Keyword(KW_PROTECTED), tokens) {
         let one = Flags {
             protected: true,
             serialized: false,
         };
-        return read_flagged(one, SERIALIZED, rest);
+        return read_flagged(one, KW_SERIALIZED, rest);
     }
-    if let Some((_, rest)) = take_word(Word::Keyword(SERIALIZED), tokens) {
+    if let Some((_, rest)) = take_word(Word::Keyword(KW_SERIALIZED), tokens) {
         let one = Flags {
             protected: false,
             serialized: true,
         };
-        return read_flagged(one, PROTECTED, rest);
+        return read_flagged(one, KW_PROTECTED, rest);
     }
     ObjectHead::Fields(none, tokens)
 }

@@ -9,6 +9,10 @@ ghost use Rattle.obq_parts.specs.Openings.{opening_kind, openings};
 use crate::steps::take_word;
 use crate::words::PROC;
 use obq_base::{Token, TokenKind};
+use obq_tables::rows::{
+    KW_CLONE, KW_FOR, KW_FOREACH, KW_IF, KW_LOOP, KW_PROC, KW_RAISE, KW_REDIRECT, KW_TRY, KW_WATCH,
+    SYM_OPEN, SYM_OPEN_BRACE, SYM_OPEN_BRACKET,
+};
 
 /// A word that opens an expression of several parts.
 #[derive(Clone, Copy, Debug, PartialEq, Eq)]
@@ -32,19 +36,19 @@ fn opening_of(kind: &TokenKind) -> Option<Opening>
     ensures { MatchOption result (No (among openings kind.now)) (λ o. kind.now ≡ opening_kind o) }
 {
     match kind {
-        TokenKind::Keyword(2) => Some(Opening::Clone),
-        TokenKind::Keyword(11) => Some(Opening::For),
-        TokenKind::Keyword(12) => Some(Opening::Foreach),
-        TokenKind::Keyword(13) => Some(Opening::If),
-        TokenKind::Keyword(18) => Some(Opening::Loop),
-        TokenKind::Keyword(23) => Some(Opening::Procedure),
-        TokenKind::Keyword(25) => Some(Opening::Raise),
-        TokenKind::Keyword(27) => Some(Opening::Redirect),
-        TokenKind::Keyword(32) => Some(Opening::Try),
-        TokenKind::Keyword(35) => Some(Opening::Watch),
-        TokenKind::Symbol(2) => Some(Opening::Paren),
-        TokenKind::Symbol(18) => Some(Opening::Bracket),
-        TokenKind::Symbol(20) => Some(Opening::Brace),
+        TokenKind::Keyword(KW_CLONE) => Some(Opening::Clone),
+        TokenKind::Keyword(KW_FOR) => Some(Opening::For),
+        TokenKind::Keyword(KW_FOREACH) => Some(Opening::Foreach),
+        TokenKind::Keyword(KW_IF) => Some(Opening::If),
+        TokenKind::Keyword(KW_LOOP) => Some(Opening::Loop),
+        TokenKind::Keyword(KW_PROC) => Some(Opening::Procedure),
+        TokenKind::Keyword(KW_RAISE) => Some(Opening::Raise),
+        TokenKind::Keyword(KW_REDIRECT) => Some(Opening::Redirect),
+        TokenKind::Keyword(KW_TRY) => Some(Opening::Try),
+        TokenKind::Keyword(KW_WATCH) => Some(Opening::Watch),
+        TokenKind::Symbol(SYM_OPEN) => Some(Opening::Paren),
+        TokenKind::Symbol(SYM_OPEN_BRACKET) => Some(Opening::Bracket),
+        TokenKind::Symbol(SYM_OPEN_BRACE) => Some(Opening::Brace),
         _ => None,
     }
 }

@@ -8,21 +8,25 @@ ghost use Rattle.obq_base.specs.declared.tokens.TokenKind.TheVariants as kind;
 ghost use Rattle.obq_parts.specs.Reads.{TakesOperator};
 
 use obq_base::{Operator, Token, TokenKind};
+use obq_tables::rows::{
+    KW_ANDIF, KW_IS, KW_ISNOT, KW_ORIF, SYM_AMPERSAND, SYM_GREATER, SYM_GREATER_EQUAL, SYM_LESS,
+    SYM_LESS_EQUAL, SYM_MINUS, SYM_PERCENT, SYM_PLUS, SYM_SLASH, SYM_STAR,
+};
 
 fn symbol_operator(level: u32, row: u32) -> Option<Operator>
     ensures { MatchOption result (No (among (operators level) (kind.Symbol row))) (λ o. Operates level (kind.Symbol row) o) }
 {
     match (level, row) {
-        (0, 4) => Some(Operator::Multiply),
-        (0, 9) => Some(Operator::Divide),
-        (0, 0) => Some(Operator::Remainder),
-        (1, 5) => Some(Operator::Add),
-        (1, 7) => Some(Operator::Subtract),
-        (1, 1) => Some(Operator::Join),
-        (2, 12) => Some(Operator::Less),
-        (2, 13) => Some(Operator::LessEqual),
-        (2, 16) => Some(Operator::Greater),
-        (2, 17) => Some(Operator::GreaterEqual),
+        (0, SYM_STAR) => Some(Operator::Multiply),
+        (0, SYM_SLASH) => Some(Operator::Divide),
+        (0, SYM_PERCENT) => Some(Operator::Remainder),
+        (1, SYM_PLUS) => Some(Operator::Add),
+        (1, SYM_MINUS) => Some(Operator::Subtract),
+        (1, SYM_AMPERSAND) => Some(Operator::Join),
+        (2, SYM_LESS) => Some(Operator::Less),
+        (2, SYM_LESS_EQUAL) => Some(Operator::LessEqual),
+        (2, SYM_GREATER) => Some(Operator::Greater),
+        (2, SYM_GREATER_EQUAL) => Some(Operator::GreaterEqual),
         _ => None,
     }
 }
@@ -31,10 +35,10 @@ fn keyword_operator(level: u32, row: u32) -> Option<Operator>
     ensures { MatchOption result (No (among (operators level) (kind.Keyword row))) (λ o. Operates level (kind.Keyword row) o) }
 {
     match (level, row) {
-        (2, 15) => Some(Operator::Is),
-        (2, 16) => Some(Operator::IsNot),
-        (3, 1) => Some(Operator::Andif),
-        (4, 22) => Some(Operator::Orif),
+        (2, KW_IS) => Some(Operator::Is),
+        (2, KW_ISNOT) => Some(Operator::IsNot),
+        (3, KW_ANDIF) => Some(Operator::Andif),
+        (4, KW_ORIF) => Some(Operator::Orif),
         _ => None,
     }
 }

@@ -7,6 +7,11 @@ ghost use Rattle.obq_grammar.specs.Follow.{among, is_word, suffix_words, BeginsN
 ghost use Rattle.obq_parts.specs.Reads.{kind_of, Ended};
 
 use obq_base::{Name, Token, TokenKind};
+use obq_tables::rows::{
+    KW_ANDIF, KW_ELSE, KW_ELSIF, KW_END, KW_EXCEPT, KW_FINALLY, KW_IS, KW_ISNOT, KW_ORIF,
+    SYM_AMPERSAND, SYM_DOT, SYM_GREATER, SYM_GREATER_EQUAL, SYM_LESS, SYM_LESS_EQUAL, SYM_MINUS,
+    SYM_OPEN, SYM_OPEN_BRACKET, SYM_PERCENT, SYM_PLUS, SYM_SEMICOLON, SYM_SLASH, SYM_STAR,
+};
 
 /// Why nothing was read.
 #[derive(Drop)]
@@ -76,7 +81,10 @@ pub fn ends_block(tokens: &[Token]) -> bool
 {
     match tokens.first() {
         Some(token) => match &token.kind {
-            TokenKind::Keyword(row) => matches!(*row, 4 | 5 | 6 | 7 | 10),
+            TokenKind::Keyword(row) => matches!(
+                *row,
+                KW_ELSE | KW_ELSIF | KW_END | KW_EXCEPT | KW_FINALLY
+            ),
             TokenKind::EndOfSource => true,
             _ => false,
         },
@@ -90,8 +98,11 @@ pub fn ends_item(tokens: &[Token]) -> bool
 {
     match tokens.first() {
         Some(token) => match &token.kind {
-            TokenKind::Keyword(row) => matches!(*row, 4 | 5 | 6 | 7 | 10),
-            TokenKind::Symbol(row) => *row == 11,
+            TokenKind::Keyword(row) => matches!(
+                *row,
+                KW_ELSE | KW_ELSIF | KW_END | KW_EXCEPT | KW_FINALLY
+            ),
+            TokenKind::Symbol(row) => *row == SYM_SEMICOLON,
             TokenKind::EndOfSource => true,
             _ => false,
         },
@@ -105,10 +116,22 @@ pub fn ends_expr(tokens: &[Token]) -> bool
 {
     match tokens.first() {
         Some(token) => match &token.kind {
-            TokenKind::Keyword(row) => !matches!(*row, 1 | 15 | 16 | 22),
+            TokenKind::Keyword(row) => !matches!(*row, KW_ANDIF | KW_IS | KW_ISNOT | KW_ORIF),
             TokenKind::Symbol(row) => !matches!(
                 *row,
-                0 | 1 | 2 | 4 | 5 | 7 | 8 | 9 | 12 | 13 | 16 | 17 | 18
+                SYM_PERCENT
+                    | SYM_AMPERSAND
+                    | SYM_OPEN
+                    | SYM_STAR
+                    | SYM_PLUS
+                    | SYM_MINUS
+                    | SYM_DOT
+                    | SYM_SLASH
+                    | SYM_LESS
+                    | SYM_LESS_EQUAL
+                    | SYM_GREATER
+                    | SYM_GREATER_EQUAL
+                    | SYM_OPEN_BRACKET
             ),
             _ => true,
         },
@@ -132,7 +155,7 @@ pub fn begins_suffix(tokens: &[Token]) -> bool
 {
     match tokens.first() {
         Some(token) => match &token.kind {
-            TokenKind::Symbol(row) => matches!(*row, 2 | 8 | 18),
+            TokenKind::Symbol(row) => matches!(*row, SYM_OPEN | SYM_DOT | SYM_OPEN_BRACKET),
             _ => false,
         },
         None => false,

@@ -2,6 +2,7 @@
 #![tactic(auto)]
 
 mod nesting;
+pub mod rows;
 mod tables;
 
 pub use nesting::Nesting;

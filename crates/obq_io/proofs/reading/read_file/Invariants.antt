@@ -9,6 +9,7 @@ invariant-pieces g l =
     record {
       same : (n : List ℕ) → files.holds l.files n ≡ files.holds l.fn.files n;
       later : (n : List ℕ) → files.faults l.fn.files n ≤ files.faults l.files n;
+      within : vec_len l.bytes ≤ l.limit + 1;
       taken : Consumes (files.holds l.fn.files l.path) (files.left l.files) l.bytes.items;
     }
 

@@ -26,10 +26,10 @@ loop-rest-preserved-in-Blank c =
     let n = blank_length h in
     record { read = read_blank i.read h; within = omega (arith, i.within); shallow = i.shallow }
 
-pub returns-then-deeper-gt-MOST_NESTED-clause-exact : goal.returns-then-deeper-gt-MOST_NESTED-clause-exact
-returns-then-deeper-gt-MOST_NESTED-clause-exact c =
+pub returns-then-deeper-gt-NESTING_LIMIT-clause-exact : goal.returns-then-deeper-gt-NESTING_LIMIT-clause-exact
+returns-then-deeper-gt-NESTING_LIMIT-clause-exact c =
     let h : Reads c.loop-rest.rest.now c.in-Token.kind c.in-Token.after.now = subst (λ p. Cuts c.loop-rest.rest.now (Ok p)) c.in-Token.is c.in-Ok.ensures in
-    deeper_fault c.loop-rest.invariant.read h (c.nested-deeper.ensures ∙ ap (λ m. nested m c.loop-rest.depth) (c.token_nesting.ensures ∙ ap token_nesting h.2)) c.if-deeper-gt-MOST_NESTED.true
+    deeper_fault c.loop-rest.invariant.read h (c.nested-deeper.ensures ∙ ap (λ m. nested m c.loop-rest.depth) (c.token_nesting.ensures ∙ ap token_nesting h.2)) c.if-deeper-gt-NESTING_LIMIT.true
 
 pub loop-rest-smaller : goal.loop-rest-smaller
 loop-rest-smaller c =
@@ -43,7 +43,7 @@ loop-rest-preserved c =
     let n = token_length h in
     let deeper = c.nested-deeper.ensures ∙ ap (λ m. nested m c.loop-rest.depth) (c.token_nesting.ensures ∙ ap token_nesting h.2) in
     let t : Token = record { kind = c.in-Token.kind; place = length c.args.source.now - length c.loop-rest.rest.now } in
-    record { read = pushed t i.read h deeper c.if-deeper-gt-MOST_NESTED.false refl c.in-Ok-push.ensures.items; within = omega (arith, i.within); shallow = c.if-deeper-gt-MOST_NESTED.false }
+    record { read = pushed t i.read h deeper c.if-deeper-gt-NESTING_LIMIT.false refl c.in-Ok-push.ensures.items; within = omega (arith, i.within); shallow = c.if-deeper-gt-NESTING_LIMIT.false }
 
 pub returns-in-Err-clause-exact : goal.returns-in-Err-clause-exact
 returns-in-Err-clause-exact c = subst (λ r. Lexes c.args.source.now (Err r)) (sym c.refused.ensures) (stopped c.in-Err.stop c.loop-rest.invariant.read c.in-Err.ensures)

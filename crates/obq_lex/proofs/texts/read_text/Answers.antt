@@ -11,10 +11,10 @@ loop-byte-init c = record {
   short = let e = ap length c.new-bytes.ensures.items in omega arith;
 }
 
-pub returns-then-len-eq-MOST_BYTES : goal.returns-then-len-eq-MOST_BYTES
-returns-then-len-eq-MOST_BYTES c =
+pub returns-then-len-eq-TEXT_LIMIT : goal.returns-then-len-eq-TEXT_LIMIT
+returns-then-len-eq-TEXT_LIMIT c =
     let i = c.loop-byte.invariant in
-    (34 ∷ c.args.x.now, long_text (content_append i.content c.in-Byte.ensures) (omega (arith, length_push c.loop-byte.bytes.items c.in-Byte.byte, c.len.ensures, c.if-len-eq-MOST_BYTES.true)), omega arith)
+    (34 ∷ c.args.x.now, long_text (content_append i.content c.in-Byte.ensures) (omega (arith, length_push c.loop-byte.bytes.items c.in-Byte.byte, c.len.ensures, c.if-len-eq-TEXT_LIMIT.true)), omega arith)
 
 pub returns-in-Open : goal.returns-in-Open
 returns-in-Open c =
@@ -33,5 +33,5 @@ loop-byte-preserved c =
     let e = c.in-Ok.ensures.items in
     record {
       content = subst (λ v. IsContent v c.args.x.now c.in-Byte.after.now) (sym e) (content_append i.content c.in-Byte.ensures);
-      short = let n = ap length e in omega (arith, length_push c.loop-byte.bytes.items c.in-Byte.byte, c.len.ensures, c.if-len-eq-MOST_BYTES.false);
+      short = let n = ap length e in omega (arith, length_push c.loop-byte.bytes.items c.in-Byte.byte, c.len.ensures, c.if-len-eq-TEXT_LIMIT.false);
     }

@@ -1,6 +1,6 @@
 use Rattle.std.proofs.Common.{◌+◌}
 use Rattle.obq_parts.specs.declared.targets.Target.TheVariants as target
-use Rattle.obq_sequence.proofs.Bindings as procs
+use Rattle.obq_grammar.proofs.failing.Bindings as procs
 use Rattle.obq_grammar.proofs.Theory.{as_tree, done, move, re, upto}
 use Rattle.obq_grammar.specs.Follow.{Anything, EndsArgs, EndsExpr, EndsItem, EndsLevel, EndsNames}
 use Rattle.obq_model.specs.Grammar.{IsArgs, IsArray, IsBind, IsBinds, IsBlock, IsCall, IsDotted, IsElse, IsExpr, IsField, IsFieldBody, IsFields, IsItem, IsLevel, IsPrim, IsRecBind, IsRecBinds, IsSuffix, IsTry, chain, empty, items, let_binds, level, method, no_argument, no_element, no_else, no_elsif, no_guard, no_link, no_suffix, plain, proc_of, select, value}
@@ -12,16 +12,16 @@ use Rattle.obq_parts.proofs.Ends.{is_true, not_true}
 use Rattle.obq_parts.proofs.Pass.{close_cases, pass, reads_at}
 use Rattle.obq_parts.specs.Closed.{inside, unclosed}
 use Rattle.obq_parts.specs.Targets.{IsNoTarget}
-use Rattle.obq_sequence.proofs.Bindings.{bind_of_at_1, bind_of_at_2, bind_of_at_3, bind_of_of, binds_at_1, meth_at_2, meth_at_3, meth_at_4, meth_at_5, meth_at_6, meth_of, proc_at_2, proc_at_3, proc_at_4, proc_at_5, rec_bind_of_at_1, rec_bind_of_at_2, rec_bind_of_at_3, rec_bind_of_of, rec_binds_at_1}
-use Rattle.obq_sequence.proofs.Blocks.{arm_of_at_1, arm_of_at_2, arm_of_at_3, arm_of_of, else_at_2, else_at_3, else_of, guard_of_at_1, guard_of_at_2, guard_of_at_3, guard_of_of, items_at_1, items_at_2, one_elsif_at_2, one_elsif_step, one_guard_at_2, one_guard_step}
-use Rattle.obq_sequence.proofs.Fields.{alias_at_2, alias_at_3, alias_at_4, alias_at_5, alias_end, alias_of, args_at_1, arguments_at_1, arguments_at_2, arguments_of, elements_at_1, elements_at_2, elements_of, field_of_at_1, field_of_at_2, field_of_at_3, field_of_of, fields_at_1, method_at_1, method_end, value_at_1}
-use Rattle.obq_sequence.proofs.Items.{no_target_fails, plain_at_1, plain_at_2, plain_end}
-use Rattle.obq_sequence.proofs.Lets.{excepts_at_2, excepts_at_3, excepts_at_4, excepts_of, finally_at_2, finally_at_3, finally_of, let_at_2, let_binds_at_1, let_binds_end, let_of, let_rec_at_2, let_rec_end, let_rec_of, try_at_2, var_at_2, var_end, var_of}
-use Rattle.obq_sequence.proofs.Levels.{level_at_1, level_at_2, one_link_at_2, one_link_step, operand_at_1, rest_at_1}
-use Rattle.obq_sequence.proofs.Objects.{object_at_2, object_of}
-use Rattle.obq_sequence.proofs.Primaries.{array_at_2, array_of, clone_at_2, clone_at_3, clone_at_4, clone_of, for_at_2, for_at_3, for_at_4, for_at_5, for_at_6, for_at_7, for_at_8, for_at_9, for_of, foreach_at_2, foreach_at_3, foreach_at_4, foreach_at_5, foreach_at_6, foreach_at_7, foreach_of, if_at_2, if_at_3, if_at_4, if_of, loop_at_2, loop_at_3, loop_of, raise_at_2, raise_at_3, raise_at_4, raise_of, redirect_at_2, redirect_at_3, redirect_at_4, redirect_at_5, redirect_of, watch_at_2, watch_at_3, watch_at_4, watch_at_5, watch_of}
-use Rattle.obq_sequence.proofs.Stops.{else_stop, more_at_2, more_step, proc_at_1, try_stop}
-use Rattle.obq_sequence.proofs.Suffixes.{apply_at_2, apply_of, chain_at_1, chain_at_2, dotted_at_2, index_at_2, index_at_3, index_of, invoke_at_2, invoke_of, one_suffix_at_1, one_suffix_step, suffix_stop}
+use Rattle.obq_grammar.proofs.failing.Bindings.{bind_of_at_1, bind_of_at_2, bind_of_at_3, bind_of_of, binds_at_1, meth_at_2, meth_at_3, meth_at_4, meth_at_5, meth_at_6, meth_of, proc_at_2, proc_at_3, proc_at_4, proc_at_5, rec_bind_of_at_1, rec_bind_of_at_2, rec_bind_of_at_3, rec_bind_of_of, rec_binds_at_1}
+use Rattle.obq_grammar.proofs.failing.Blocks.{arm_of_at_1, arm_of_at_2, arm_of_at_3, arm_of_of, else_at_2, else_at_3, else_of, guard_of_at_1, guard_of_at_2, guard_of_at_3, guard_of_of, items_at_1, items_at_2, one_elsif_at_2, one_elsif_step, one_guard_at_2, one_guard_step}
+use Rattle.obq_grammar.proofs.failing.Fields.{alias_at_2, alias_at_3, alias_at_4, alias_at_5, alias_end, alias_of, args_at_1, arguments_at_1, arguments_at_2, arguments_of, elements_at_1, elements_at_2, elements_of, field_of_at_1, field_of_at_2, field_of_at_3, field_of_of, fields_at_1, method_at_1, method_end, value_at_1}
+use Rattle.obq_grammar.proofs.failing.Items.{no_target_fails, plain_at_1, plain_at_2, plain_end}
+use Rattle.obq_grammar.proofs.failing.Lets.{excepts_at_2, excepts_at_3, excepts_at_4, excepts_of, finally_at_2, finally_at_3, finally_of, let_at_2, let_binds_at_1, let_binds_end, let_of, let_rec_at_2, let_rec_end, let_rec_of, try_at_2, var_at_2, var_end, var_of}
+use Rattle.obq_grammar.proofs.failing.Levels.{level_at_1, level_at_2, one_link_at_2, one_link_step, operand_at_1, rest_at_1}
+use Rattle.obq_grammar.proofs.failing.Objects.{object_at_2, object_of}
+use Rattle.obq_grammar.proofs.failing.Primaries.{array_at_2, array_of, clone_at_2, clone_at_3, clone_at_4, clone_of, for_at_2, for_at_3, for_at_4, for_at_5, for_at_6, for_at_7, for_at_8, for_at_9, for_of, foreach_at_2, foreach_at_3, foreach_at_4, foreach_at_5, foreach_at_6, foreach_at_7, foreach_of, if_at_2, if_at_3, if_at_4, if_of, loop_at_2, loop_at_3, loop_of, raise_at_2, raise_at_3, raise_at_4, raise_of, redirect_at_2, redirect_at_3, redirect_at_4, redirect_at_5, redirect_of, watch_at_2, watch_at_3, watch_at_4, watch_at_5, watch_of}
+use Rattle.obq_grammar.proofs.failing.Stops.{else_stop, more_at_2, more_step, proc_at_1, try_stop}
+use Rattle.obq_grammar.proofs.failing.Suffixes.{apply_at_2, apply_of, chain_at_1, chain_at_2, dotted_at_2, index_at_2, index_at_3, index_of, invoke_at_2, invoke_of, one_suffix_at_1, one_suffix_step, suffix_stop}
 use Rattle.std.proofs.Common.{arith, refl, rules, sym}
 use Rattle.obq_parse.proofs.parser.+parse.Goals as goal
 

@@ -1,5 +1,5 @@
 use Rattle.obq_model.specs.Grammar.{no_more}
-use Rattle.obq_sequence.proofs.Stops.{semicolon_of}
+use Rattle.obq_grammar.proofs.failing.Stops.{semicolon_of}
 use Rattle.obq_parts.proofs.Ends.{is_true, item_block, not_true}
 use Rattle.obq_parts.proofs.blocks.behind_item.Goals as goal
 

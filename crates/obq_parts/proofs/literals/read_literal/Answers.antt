@@ -3,7 +3,7 @@ use Rattle.std.proofs.lemmas.Int.{to_z-of_z}
 use Rattle.obq_base.specs.declared.trees.Expr.TheVariants as e
 use Rattle.obq_model.specs.Grammar.{IsPrim, int, text, name}
 use Rattle.obq_grammar.proofs.Theory.{as_tree, move}
-use Rattle.obq_sequence.proofs.Stops.{prim_stop}
+use Rattle.obq_grammar.proofs.failing.Stops.{prim_stop}
 use Rattle.obq_parts.proofs.Beginnings.{alike, no_keyword, no_symbol, nothing}
 use Rattle.obq_parts.proofs.literals.read_literal.Goals as goal
 

@@ -1,7 +1,7 @@
 use Rattle.std.proofs.Common.{arith}
 use Rattle.obq_model.specs.Grammar.{IsNames}
 use Rattle.obq_grammar.proofs.Theory.{re, as_tree}
-use Rattle.obq_sequence.proofs.Bindings.{names_at_1}
+use Rattle.obq_grammar.proofs.failing.Bindings.{names_at_1}
 use Rattle.obq_parts.proofs.Again.{names_again, names_last}
 use Rattle.obq_parts.proofs.names.read_names.Goals as goal
 

@@ -6,7 +6,7 @@ use Rattle.obq_model.specs.Words.{sym_close}
 use Rattle.obq_model.specs.Grammar.{IsNames, IsParameters, no_parameter}
 use Rattle.obq_grammar.specs.Follow.{No, is_word, Anything, EndsNames}
 use Rattle.obq_grammar.proofs.Theory.{as_tree, move}
-use Rattle.obq_sequence.proofs.Bindings.{parameters_at_1, parameters_at_2, parameters_of}
+use Rattle.obq_grammar.proofs.failing.Bindings.{parameters_at_1, parameters_at_2, parameters_of}
 use Rattle.obq_parts.specs.declared.steps.Refused.{Refused}
 use Rattle.obq_parts.specs.Closed.{ReadsClosed}
 use Rattle.obq_parts.specs.Reads.{Reads}

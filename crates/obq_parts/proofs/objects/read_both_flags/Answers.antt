@@ -1,7 +1,7 @@
 use Rattle.std.proofs.Common.{refl}
 use Rattle.obq_model.specs.Grammar.{IsBothFlags, flags_alone}
 use Rattle.obq_grammar.proofs.Theory.{move}
-use Rattle.obq_sequence.proofs.Objects.{both_flags_stop}
+use Rattle.obq_grammar.proofs.failing.Objects.{both_flags_stop}
 use Rattle.obq_parts.proofs.Braces.{both_fields}
 use Rattle.obq_parts.proofs.objects.read_both_flags.Goals as goal
 

@@ -1,7 +1,7 @@
 use Rattle.std.proofs.Common.{false, refl}
 use Rattle.obq_model.specs.Grammar.{IsFlagged, flag_alone}
 use Rattle.obq_grammar.proofs.Theory.{move}
-use Rattle.obq_sequence.proofs.Objects.{flagged_stop}
+use Rattle.obq_grammar.proofs.failing.Objects.{flagged_stop}
 use Rattle.obq_parts.proofs.Braces.{one_both, one_fields}
 use Rattle.obq_parts.proofs.objects.read_flagged.Goals as goal
 

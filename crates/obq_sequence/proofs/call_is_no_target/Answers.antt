@@ -1,7 +1,0 @@
-use Rattle.std.proofs.Common.{refl}
-use Rattle.obq_sequence.proofs.Items.{no_target_fails}
-use Rattle.obq_sequence.proofs.Targets.{not_bare_call, not_field_call, not_item_call}
-use Rattle.obq_sequence.proofs.call_is_no_target.Goals as goal
-
-pub returns : goal.returns
-returns c h ss vs p q x y e = no_target_fails e refl (λ n b. not_bare_call ss vs p n) (not_field_call ss vs p) (not_item_call ss vs p)

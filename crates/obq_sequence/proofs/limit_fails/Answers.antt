@@ -1,6 +1,0 @@
-use Rattle.std.proofs.Common.{refl}
-use Rattle.obq_sequence.proofs.Primaries.{for_at_6}
-use Rattle.obq_sequence.proofs.limit_fails.Goals as goal
-
-pub returns : goal.returns
-returns c n v p q t u x y z e f = for_at_6 refl refl refl e tt refl f
