@@ -1,4 +1,5 @@
 pub mod Among
+pub mod Captures
 pub mod Closed
 pub mod Comments
 pub mod Contents

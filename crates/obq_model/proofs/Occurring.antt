@@ -48,7 +48,7 @@ named {R} w u names y = record { only = λ x. at x (is_covered u names y) refl; 
   at x false e o = absurd (true_false (sym o))
 
 -- a name under binders
-uncovered : (x : Bytes) (xs : List Bytes) {R : Type 0} (t : Term R) → occurs x (Under xs t) ≡ true → (among x xs ≡ false) × (occurs x t ≡ true)
+pub uncovered : (x : Bytes) (xs : List Bytes) {R : Type 0} (t : Term R) → occurs x (Under xs t) ≡ true → (among x xs ≡ false) × (occurs x t ≡ true)
 uncovered x xs t e = at (among x xs) refl e where
   at : (b : Bool) → among x xs ≡ b → (not b && occurs x t) ≡ true → (among x xs ≡ false) × (occurs x t ≡ true)
   at true q e = absurd (true_false (sym e))

@@ -1,22 +1,23 @@
 //! Laws of codes: what they stand for, where their trees end, and which procedure each is of.
 
-ghost use Rattle.std.specs.Prelude.{◌≡◌, [], List, Option, Some, false, length, map, option_map, ℕ};
+ghost use Rattle.std.specs.Prelude.{◌≡◌, [], List, Option, Some, false, length, map, option_map, true, ℕ};
 ghost use Rattle.obq_base.specs.declared.code.CodeNo.{CodeNo};
 ghost use Rattle.obq_base.specs.declared.code.Node.{Node};
 ghost use Rattle.obq_base.specs.declared.code.SourceCode.{SourceCode};
 ghost use Rattle.obq_base.specs.declared.trees.Block.{Block};
-ghost use Rattle.obq_base.specs.Tree.{BlockTree, ExprTree, ItemTree};
+ghost use Rattle.obq_base.specs.Tree.{BlockTree, ExprTree, ItemTree, ProcedureTree};
 ghost use Rattle.obq_tables.specs.Tables.{builtin_arguments, builtins, exceptions};
 ghost use Rattle.obq_model.specs.Builtins.{arity_of_builtin};
 ghost use Rattle.obq_model.specs.CodeLaws.{IsInnermost, IsTable, IsWithin, raised_texts};
-ghost use Rattle.obq_model.specs.Draft.{draft_block, draft_expr, draft_item};
+ghost use Rattle.obq_model.specs.Draft.{captured_by, draft_block, draft_expr, draft_item};
 ghost use Rattle.obq_model.specs.Occurrences.{builtin_row, unbound};
-ghost use Rattle.obq_model.specs.Opened.{builtin_at, builtins_in_order, open_block};
+ghost use Rattle.obq_model.specs.Opened.{builtin_at, builtins_in_order, open_block, open_body};
 ghost use Rattle.obq_model.specs.Opening.{block_term, builtin_named};
 ghost use Rattle.obq_model.specs.Procedures.{Proc};
+ghost use Rattle.obq_model.specs.Put.{among};
 ghost use Rattle.obq_model.specs.Reading.{occurs};
 ghost use Rattle.obq_model.specs.Resolved.{AreResolved, IsCode};
-ghost use Rattle.obq_model.specs.Scopes.{Outside, outermost, slot_of};
+ghost use Rattle.obq_model.specs.Scopes.{Outside, inside, outermost, slot_of};
 ghost use Rattle.obq_model.specs.Skipped.{skipped};
 ghost use Rattle.obq_model.specs.Terms.{Bytes};
 
@@ -34,6 +35,12 @@ pub fn terms_are_closed()
 /// binder of its name.
 pub fn slots_are_in_range()
     ensures { (o : Outside) (locals : List Bytes) (x : Bytes) → IsWithin o (length locals) (slot_of o locals x) × IsInnermost o locals (slot_of o locals x) x }
+{}
+
+/// A procedure captures exactly the names that are free in its term.
+pub fn captures_occur()
+    ensures needed { (writer : ℕ) (o : Outside) (locals : List Bytes) (p : ProcedureTree) (x : Bytes) → among x (captured_by o locals p) ≡ true → occurs x (open_body writer (inside o [] (captured_by o locals p)) p) ≡ true }
+    ensures all { (writer : ℕ) (o : Outside) (locals : List Bytes) (p : ProcedureTree) (x : Bytes) → occurs x (open_body writer (inside o [] (captured_by o locals p)) p) ≡ true → among x (captured_by o locals p) ≡ true }
 {}
 
 /// Where the nodes of a block, an item or an expression end, by the numbers of children alone.

@@ -159,6 +159,20 @@ abbrev mutual
 abbrev pub walk_under : Bytes → BlockTree → Walker → Walker
 walk_under x b w = truncated (length w.bound) (walk_block b (with_binders (x ∷ []) w))
 
+-- a `for` or `foreach`
+abbrev pub walk_for : ExprTree → Walker → Walker
+walk_for (ForTree x m n b place) w = walk_under x b (walk_expr false n (walk_expr false m w))
+walk_for (ForeachTree x e b place) w = walk_under x b (walk_expr false e w)
+walk_for e w = w
+
+-- an expression that has blocks
+abbrev pub walk_control : ExprTree → Walker → Walker
+walk_control (IfTree arms last place) w = walk_maybe last (walk_arms arms w)
+walk_control (LoopTree b place) w = walk_block b w
+walk_control (TryTree b arms last place) w = walk_maybe last (walk_arms arms (walk_block b w))
+walk_control (FinallyTree b last place) w = walk_block last (walk_block b w)
+walk_control e w = walk_for e w
+
 -- a `let rec`
 abbrev pub walk_group : RecBindTrees → Walker → Walker
 walk_group bs w = with_binders (member_names bs) (left (outer_of w) (walk_members bs (with_binders (member_names bs) (entered w))))

@@ -2,7 +2,7 @@
 use Rattle.std.specs.Prelude.{List, [], codes, false, refl, true, ℕ, ◌∷◌, ◌≡◌}
 use Prim.Native.String.{String}
 use Rattle.obq_base.specs.declared.trees.Operator.{Operator}
-use Rattle.obq_base.specs.Tree.{BlockTree, ItemTree, LetItem, VarItem, LetRecItem, NoBinds, ABind, RecBindTrees, NoRecBinds, ARecBind, AProc}
+use Rattle.obq_base.specs.Tree.{ItemTree, LetRecItem, RecBindTrees, NoRecBinds, ARecBind, AProc}
 use Rattle.obq_model.specs.Occurrences.{builtin_row}
 use Rattle.obq_model.specs.Opened.{builtin_at, open_block}
 use Rattle.obq_model.specs.Opening.{block_term}
@@ -10,7 +10,7 @@ use Rattle.obq_base.specs.declared.code.Slot.TheVariants as s
 use Rattle.obq_model.specs.Draft.{captured_by, captured_by_group}
 use Rattle.obq_model.specs.Scopes.{Outside, outermost, slot_of, slots_of}
 use Rattle.obq_model.specs.Terms.{Bytes, Term}
-use Rattle.obq_rows.specs.Sources.{block, then_run, bind_let, bind_var, bind_rec, assign, set_value, set_method, set_alias, set_index, int, text, truth, okay, named, procedure, array, flags, object, value_field, method_field, alias_field, arm, choose_arm, choose_arm_else, looped, leave_loop, counted, for_each, try_except, try_except_else, try_finally, raise_it, watch_until, redirect_to, clone_of, operated, then_operate, chained, applied, selected, invoked, at_index, suffixed, call_of, call_named, select, call_method, index, print, exception_named}
+use Rattle.obq_rows.specs.Sources.{block, then_run, bind_let, bind_var, bind_rec, assign, set_value, set_method, set_alias, set_index, int, text, truth, okay, named, procedure, array, flags, object, value_field, method_field, alias_field, arm, choose_arm, choose_arm_else, looped, leave_loop, counted, for_each, try_except_else, try_finally, raise_it, watch_until, redirect_to, clone_of, operated, then_operate, chained, applied, selected, invoked, at_index, suffixed, call_named, print, exception_named}
 
 -- read back from the code, and by the tree
 abbrev read_back : List ItemTree → Term ℕ

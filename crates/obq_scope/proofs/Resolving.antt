@@ -1,6 +1,6 @@
 -- The codes of a source's block resolve it.
-use Rattle.std.proofs.Common.{◌≡◌, ◌∙◌, ℕ, zero, suc, Bool, true, List, [], ◌∷◌, ◌++◌, ◌+◌, ◌==◌, ◌<◌, Option, Some, None, if◌then◌else◌, refl, ap, sym, subst, inl, length, slice_get, append_assoc, arith, eq-eqb}
-use Rattle.std.proofs.lemmas.List.{append-nil, length-append, length_push}
+use Rattle.std.proofs.Common.{◌≡◌, ◌∙◌, ℕ, suc, Bool, List, [], ◌∷◌, ◌++◌, ◌+◌, ◌==◌, ◌<◌, Option, Some, None, if◌then◌else◌, refl, ap, sym, subst, inl, length, slice_get, append_assoc, arith, eq-eqb}
+use Rattle.std.proofs.lemmas.List.{append-nil, length_push}
 use Rattle.obq_base.specs.declared.code.Node.{Node}
 use Rattle.obq_base.specs.declared.code.Code.{Code}
 use Rattle.obq_base.specs.declared.code.CodeNo.{CodeNo}
@@ -9,7 +9,7 @@ use Rattle.obq_base.specs.Tree.{BlockTree}
 use Rattle.obq_model.specs.Draft.{Draft, draft_block}
 use Rattle.obq_model.specs.Occurrences.{unbound}
 use Rattle.obq_model.specs.Procedures.{Proc, main_proc, procs_of}
-use Rattle.obq_model.specs.Resolved.{AreCodes, IsCode, IsNumbered, Resolves, all_numbers, numbers_in, times}
+use Rattle.obq_model.specs.Resolved.{AreCodes, IsCode, IsNumbered, Resolves, all_numbers, times}
 use Rattle.obq_model.specs.Scopes.{outermost}
 use Rattle.obq_model.proofs.Drafted.{drafted_block, IsDrafted}
 use Rattle.obq_scope.specs.declared.output.Output.{Output}

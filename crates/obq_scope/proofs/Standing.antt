@@ -1,5 +1,5 @@
 -- What is emitted for a draft is code of that draft, wherever its procedures stand under the numbers that they got.
-use Rattle.std.proofs.Common.{◌≡◌, ◌∙◌, ℕ, zero, suc, Bool, true, List, [], ◌∷◌, ◌++◌, ◌+◌, ◌==◌, Option, None, Some, if◌then◌else◌, refl, ap, sym, subst, inl, inr, length, slice_get, append_assoc, arith}
+use Rattle.std.proofs.Common.{◌≡◌, ◌∙◌, ℕ, suc, List, [], ◌∷◌, ◌++◌, ◌+◌, Option, Some, refl, ap, sym, subst, inl, inr, length, slice_get, append_assoc, arith}
 use Rattle.std.proofs.lemmas.List.{append-nil, length-append, length_push}
 use Rattle.obq_base.specs.declared.code.Node.{Node}
 use Rattle.obq_base.specs.declared.code.Node.TheVariants as n
@@ -8,10 +8,10 @@ use Rattle.obq_base.specs.declared.code.CodeNo.{CodeNo}
 use Rattle.obq_base.specs.declared.code.Slot.{Slot}
 use Rattle.obq_base.specs.Tree.{RecBindTrees, NoRecBinds, ARecBind, ProcedureTree, AProc}
 use Rattle.obq_model.specs.Draft.{Draft, Done, Plain, Both, Closure, Method, Group, Members, NoMembers, AMember, body_of, count_params, draft_block, draft_body, params_of}
-use Rattle.obq_model.specs.Procedures.{AreMembers, IsGrouped, IsLiteral, IsMade, Proc, proc_in}
+use Rattle.obq_model.specs.Procedures.{AreMembers, IsGrouped, IsLiteral, Proc, proc_in}
 use Rattle.obq_model.specs.Resolved.{AreCodes, IsCode, IsCodeOf, IsNumbered}
 use Rattle.obq_model.specs.Scopes.{Outside}
-use Rattle.obq_model.proofs.Drafted.{AreCaptured, AreDrafted, IsCaptured, IsDrafted}
+use Rattle.obq_model.proofs.Drafted.{AreDrafted, IsCaptured, IsDrafted}
 use Rattle.obq_scope.specs.declared.output.Output.{Output}
 use Rattle.obq_scope.specs.Emitted.{closed, emitted, member_numbers, next_number, opened, with_members, with_node}
 
