@@ -11,7 +11,7 @@ use Rattle.obq_run.specs.declared.ends.Cause.{Cause}
 use Rattle.obq_run.specs.declared.ends.Cause.TheVariants as cause
 use Rattle.obq_run.specs.declared.run.Unrun.{Unrun}
 use Rattle.obq_run.specs.declared.run.Unrun.TheVariants.{NoMemory, NotYet}
-use Rattle.obq_run.specs.Ends.{IfNotYet, IfUnrun, IsCheckRefusal, IsRunRefusal, unrun_cause}
+use Rattle.obq_run.specs.Ends.{IfNotYet, IfUnrun, OnWriteFault, IsCheckRefusal, IsRunRefusal, unrun_cause}
 use Rattle.obq_run.specs.Held.{AreHeld}
 use Rattle.obq_run.specs.Runs.{IsNotYetOf, StopsRun}
 
@@ -48,7 +48,7 @@ one_accepted source (tree ∷ trees) h = (h.0.0, tree, h.0.1)
 
 -- which has no lexical fault
 pub never_faulty : (source : List ℕ) (trees : List Block) (kind : LexKind) (place : ℕ) → AreAccepted (source ∷ []) trees → IsFirstFault source kind place → ⊥
-never_faulty source trees kind place h fault = let one = one_accepted source trees h in no_fault_of_a_reading source one.0 kind place one.2.reading fault
+never_faulty source trees kind place h first = let one = one_accepted source trees h in no_fault_of_a_reading source one.0 kind place one.2.reading first
 
 pub one_within : (holds : List ℕ → Option (List ℕ)) (paths : List (List ℕ)) (source : List ℕ) → AreHeld holds SOURCE_LIMIT paths (source ∷ []) → length source ≤ SOURCE_LIMIT
 one_within holds [] source held = absurd held
@@ -58,3 +58,16 @@ pub unrun_not_yet : (holds : List ℕ → Option (List ℕ)) (limit : ℕ) (path
     → AreAccepted (source ∷ []) trees → IfUnrun why (StopsRun (source ∷ []) 0) → IfNotYet (unrun_cause why) (IsNotYetOf holds limit paths)
 unrun_not_yet holds limit paths source trees (NotYet k) held accepted h = record { sources = source ∷ []; held = held; trees = trees; accepted = accepted; stops = h }
 unrun_not_yet holds limit paths source trees NoMemory held accepted h = tt
+
+-- what holds where writing failed, carried over
+pub on_write_fault : (c : Cause) (P Q : Type 0) → (P → Q) → OnWriteFault c P → OnWriteFault c Q
+on_write_fault cause.Ran P Q f h = tt
+on_write_fault cause.Checked P Q f h = tt
+on_write_fault (cause.Usage word) P Q f h = tt
+on_write_fault (cause.TooManySites word) P Q f h = tt
+on_write_fault (cause.SourceTooLong s) P Q f h = tt
+on_write_fault (cause.Refused s why) P Q f h = tt
+on_write_fault (cause.NotYet s k) P Q f h = tt
+on_write_fault (cause.ReadFault file) P Q f h = tt
+on_write_fault cause.WriteFault P Q f h = f h
+on_write_fault cause.NoMemory P Q f h = tt

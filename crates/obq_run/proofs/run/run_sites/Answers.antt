@@ -1,10 +1,13 @@
-use Rattle.std.proofs.Common.{List, [], subst, sym, ℕ, ◌∙◌, ◌∷◌}
+use Rattle.std.proofs.Common.{List, [], refl, subst, sym, ℕ, ◌∙◌, ◌∷◌}
+use Rattle.std.specs.List.{zip}
+use Rattle.obq_model.specs.Output.{run_text}
 use Rattle.std.proofs.lemmas.List.{length-map}
 use Rattle.std.specs.String.{string_bytes}
 use Rattle.obq_base.specs.declared.limits.TheConstants.{DEFAULT_TURNS, SOURCE_LIMIT}
 use Rattle.obq_io.specs.Causes.{Rose}
-use Rattle.obq_run.specs.Runs.{NotYetCompletes, RunCompletes, RunsOf}
-use Rattle.obq_words.specs.Words.{paths_of}
+use Rattle.obq_run.specs.Runs.{IsEndOf, IsRunOf, NotYetCompletes, RunCompletes, RunsOf, one_ended}
+use Rattle.obq_words.specs.Words.{names_of, paths_of}
+use Rattle.obq_run.proofs.Unruns.{on_write_fault}
 use Rattle.obq_run.proofs.Complete.{not_yet_finished, not_yet_refused, run_refused}
 use Rattle.obq_run.proofs.Held.{held_length}
 use Rattle.obq_run.proofs.run.run_sites.Goals as goal
@@ -47,3 +50,16 @@ returns-in-Ok-clause-completes_not_yet g c =
     let output : Type 0 = Rose (g.O.Sink.faults c.args.out.now) (g.O.Sink.faults c.finish.new.out) in
     let runs : RunsOf holds SOURCE_LIMIT paths DEFAULT_TURNS c.in-Ok.ran = c.in-Ok.ensures.ran in
     not_yet_finished holds SOURCE_LIMIT paths runs.source Rises output c.finish.result.cause runs.held runs.form
+
+pub returns-in-Ok-clause-part : goal.returns-in-Ok-clause-part
+returns-in-Ok-clause-part g c =
+    let holds = g.F.Files.holds c.args.files.now in
+    let sites = c.args.sites.now in
+    let paths = paths_of sites in
+    let runs : RunsOf holds SOURCE_LIMIT paths DEFAULT_TURNS c.in-Ok.ran = c.in-Ok.ensures.ran in
+    let outputs : List (List ℕ) = c.in-Ok.ran.bytes.items ∷ [] in
+    let text : List ℕ = run_text (zip (names_of sites) outputs) one_ended in
+    let end : IsEndOf (runs.source ∷ []) DEFAULT_TURNS c.finish.result.journal outputs one_ended = subst (λ journal. IsEndOf (runs.source ∷ []) DEFAULT_TURNS journal outputs one_ended) (sym c.finish.ensures.journal) runs.end in
+    let run : IsRunOf holds SOURCE_LIMIT (names_of sites) paths DEFAULT_TURNS c.finish.result.journal text 0 =
+    record { sources = runs.source ∷ []; held = runs.held; outputs = outputs; threads = one_ended; end = end; output_text = refl; report_status = refl } in
+    on_write_fault c.finish.result.cause _ _ (λ prefix. (text, 0, run, prefix)) c.finish.ensures.part
