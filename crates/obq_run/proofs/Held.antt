@@ -1,8 +1,8 @@
 -- Sources that were read are as many as their sites, and within the limit.
-use Rattle.std.proofs.Common.{List, None, Option, Some, [], ap, arith, get_or, length, map, refl, slice_get, subst, suc, sym, take, ℕ, ◌+◌, ◌++◌, ◌<◌, ◌≡◌, ◌≤◌, ◌∙◌, ◌∷◌}
+use Rattle.std.proofs.Common.{List, None, Option, Some, [], ap, arith, drop, get_or, length, map, refl, slice_get, subst, suc, sym, take, ℕ, ◌+◌, ◌++◌, ◌<◌, ◌≡◌, ◌≤◌, ◌∙◌, ◌∷◌}
 use Rattle.std.specs.Prelude.{IsSomeAnd}
 use Rattle.std.specs.Option.{option_map}
-use Rattle.std.proofs.Math.Seq.{take-suc}
+use Rattle.std.proofs.Math.Seq.{drop-cons, take-suc}
 use Rattle.std.proofs.lemmas.List.{length-map, take-map}
 use Rattle.std.proofs.lemmas.Option.{slice_get-get_or, slice_get-map}
 use Rattle.std.specs.String.{string_bytes}
@@ -59,16 +59,21 @@ within_push : (holds : List ℕ → Option (List ℕ)) (limit : ℕ) (xs : List 
 within_push holds limit [] y before here = (here, tt)
 within_push holds limit (x ∷ xs) y before here = (before.0, within_push holds limit xs y before.1 here)
 
+one_more : (i : ℕ) → suc i ≡ i + 1
+one_more i = omega arith
+
+pub taken_next : (sites : List SiteWord) (i : ℕ) (site : SiteWord) → i < length sites → site ≡ get_or sites i site → take (i + 1) sites ≡ take i sites ++ site ∷ []
+taken_next sites i site lt is = subst (λ n. take n sites ≡ take i sites ++ site ∷ []) (one_more i) (take-suc sites i site lt ∙ ap (λ s. take i sites ++ s ∷ []) (sym is))
+
+pub left_next : (sites : List SiteWord) (i : ℕ) (site : SiteWord) → i < length sites → site ≡ get_or sites i site → drop i sites ≡ site ∷ drop (i + 1) sites
+left_next sites i site lt is = subst (λ n. drop i sites ≡ site ∷ drop n sites) (one_more i) (drop-cons sites i site lt ∙ ap (λ s. s ∷ drop (suc i) sites) (sym is))
+
 -- one more file was read
 pub within_next : (holds : List ℕ → Option (List ℕ)) (limit : ℕ) (sites : List SiteWord) (i : ℕ) (site : SiteWord) (held : Option (List ℕ)) (bytes : List ℕ) → i < length sites → site ≡ get_or sites i site
     → AreWithinLimit holds limit (paths_of (take i sites)) → held ≡ holds (string_bytes site.path) → IsIt held bytes → length bytes ≤ limit → AreWithinLimit holds limit (paths_of (take (i + 1) sites))
 within_next holds limit sites i site held bytes lt is before same it short =
     let here : WhereTold (holds (string_bytes site.path)) (λ xs. length xs ≤ limit) = subst (λ o. WhereTold o (λ xs. length xs ≤ limit)) same (within_told held bytes limit it short) in
-    let next : take (i + 1) sites ≡ take i sites ++ site ∷ [] = subst (λ n. take n sites ≡ take i sites ++ site ∷ []) (one_more i) (take-suc sites i site lt ∙ ap (λ s. take i sites ++ s ∷ []) (sym is)) in
-    subst (λ ss. AreWithinLimit holds limit (paths_of ss)) (sym next) (within_push holds limit (take i sites) site before here)
-  where
-    one_more : (i : ℕ) → suc i ≡ i + 1
-    one_more i = omega arith
+    subst (λ ss. AreWithinLimit holds limit (paths_of ss)) (sym (taken_next sites i site lt is)) (within_push holds limit (take i sites) site before here)
 
 at_site : (P : List ℕ → Type 0) (sites : List SiteWord) (i : ℕ) (site : SiteWord) → i < length sites → site ≡ get_or sites i site → P (string_bytes site.path) → IsSomeAnd (slice_get (paths_of sites) i) P
 at_site P sites i site lt is here =

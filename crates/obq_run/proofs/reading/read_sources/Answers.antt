@@ -1,8 +1,9 @@
-use Rattle.std.proofs.Common.{List, [], arith, drop, length, rules, string_bytes, take, ℕ, ◌+◌, ◌++◌, ◌∙◌, ◌≡◌, ◌≤◌}
+use Rattle.std.proofs.Common.{List, [], ap, ap₂, append_assoc, arith, drop, is_ok, length, string_bytes, subst, sym, take, true, ℕ, ◌+◌, ◌++◌, ◌<◌, ◌∙◌, ◌∷◌, ◌≡◌, ◌≤◌}
+use Rattle.obq_io.specs.Known.{IsIt}
 use Rattle.obq_front.specs.Contents as front
-use Rattle.obq_run.proofs.Held.{unread_at, within_next}
+use Rattle.obq_run.proofs.Held.{left_next, taken_next, unread_at, within_next}
 use Rattle.std.proofs.Math.ListN.{drop_of_length-le}
-use Rattle.std.proofs.lemmas.List.{append-nil}
+use Rattle.std.proofs.lemmas.List.{append-nil, map-append}
 use Rattle.obq_base.specs.declared.limits.TheConstants.{SOURCE_LIMIT}
 use Rattle.obq_run.specs.Held.{AreHeld}
 use Rattle.obq_words.specs.Words.{names_of, paths_of}
@@ -32,8 +33,21 @@ loop-i-preserved g c =
     let sites = c.args.sites.now in
     let i = c.loop-i.i in
     let path = string_bytes c.index-sites-i.result.path in
-    let held : (others : List (List ℕ)) → AreHeld holds SOURCE_LIMIT (paths_of (drop (i + 1) sites)) others → AreHeld holds SOURCE_LIMIT (paths_of sites) (front.contents c.push.new.self.items ++ others) = search rules in
-    let named : front.names_of c.push.new.self.items ≡ names_of (take (i + 1) sites) = search rules in
+    let site = c.index-sites-i.result in
+    let source = c.in-Ok.source in
+    let items = c.loop-i.sources.items in
+    let lt : i < length sites = omega arith in
+    let done : is_ok c.push.result ≡ true = cc (c.is_err.ensures.negation, c.if-is_err.false) in
+    let more : c.push.new.self.items ≡ items ++ source ∷ [] = rw done at c.push.ensures.items in
+    let next : take (i + 1) sites ≡ take i sites ++ site ∷ [] = taken_next sites i site lt c.index-sites-i.is in
+    let here : drop i sites ≡ site ∷ drop (i + 1) sites = left_next sites i site lt c.index-sites-i.is in
+    let is : IsIt (holds path) source.bytes.items = subst (λ o. IsIt o source.bytes.items) (c.loop-i.invariant.same path) c.in-Ok.ensures.unread in
+    let read : front.contents c.push.new.self.items ≡ front.contents items ++ source.bytes.items ∷ [] = ap front.contents more ∙ map-append (λ s. s.bytes.items) items (source ∷ []) in
+    let held : (others : List (List ℕ)) → AreHeld holds SOURCE_LIMIT (paths_of (drop (i + 1) sites)) others → AreHeld holds SOURCE_LIMIT (paths_of sites) (front.contents c.push.new.self.items ++ others) =
+    λ others h. subst (AreHeld holds SOURCE_LIMIT (paths_of sites)) (sym (ap (λ xs. xs ++ others) read ∙ append_assoc (front.contents items) (source.bytes.items ∷ []) others))
+        (c.loop-i.invariant.held (source.bytes.items ∷ others) (subst (λ ss. AreHeld holds SOURCE_LIMIT (paths_of ss) (source.bytes.items ∷ others)) (sym here) (is, c.in-Ok.ensures.bound, h))) in
+    let named : front.names_of c.push.new.self.items ≡ names_of (take (i + 1) sites) =
+    ap front.names_of more ∙ (map-append (λ s. s.name) items (source ∷ []) ∙ (ap₂ (λ xs y. xs ++ y ∷ []) c.loop-i.invariant.named c.in-Ok.ensures.named ∙ sym (ap names_of next ∙ map-append (λ s. s.name) (take i sites) (site ∷ [])))) in
     record {
       same = λ n. c.read_source.ensures.same n ∙ c.loop-i.invariant.same n;
       later = λ n. omega (arith, c.read_source.ensures.later n, c.loop-i.invariant.later n);
