@@ -342,6 +342,7 @@ site_retries_names trees turns sites rest a b t k used depth self op kind loc na
     reassembled_waits trees turns sites b site (record rest { names = names; lines = posted rest.lines b a (Reply t k (used + 1) o); journal = rest.journal ++ entry_of t 0 (Some (act kind loc)) ∷ [] }) m w.running (at2 w.waiting b t None) (named_memory sites rest b site names refl)
     (table_kept sites (λ z. z.running) b site refl) (table_at sites (λ z. z.waiting) b site t None refl) refl refl
     (step_keeps trees turns w _ inv (Serves w (park w b t None) a b t k used depth self op kind loc m x o (OffHold there) (named_may (sites b).ended rest.names op kind loc names x named) (named_does sites rest b t self op kind loc names x named) gives))
+
 -- a commit with a fork where there are 64 threads
 pub site_too_many : (trees : List BlockTree) (turns : ℕ) (sites : ℕ → Site) (rest : Rest) (s t n : ℕ) (slot : Slot) (u : Term Ref) (v : Value Ref) (hs : List (Frame Ref)) → StandsFor trees turns (assembled sites rest) → (sites s).running t ≡ Some slot → slot.used + n < turns
     → after_steps slot.segment.depth slot.segment.self n slot.segment.window ≡ Some u → find same_ref slot.segment.depth slot.segment.self u ≡ Needs (ForkOff v) hs → nat_le THREAD_LIMIT rest.threads ≡ true

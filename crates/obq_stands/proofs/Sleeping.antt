@@ -140,4 +140,3 @@ out_sleeps u op gs used o q g e =
       found = find_plug same_loc 0 no_self gs (Form (Out o q) (Part g End)) (needs_frames same_loc 0 no_self u op gs e).0 tt ∙ lifted_asks gs (Again o q g) [];
       is = refl;
     }
-
