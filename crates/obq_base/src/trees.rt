@@ -38,17 +38,22 @@ pub struct Block {
     pub place: u32,
 }
 
+/// An item of a block. The place of an assignment of a field or an item of an array is that of the first token of its object
+/// or array, also where that is a parenthesis. A `Plain` one has the place of its expression.
 #[cycle(tree)]
 #[derive(Drop)]
 pub enum Item {
+    /// `let` and binds, of which there is one at least; so for `Var` and `LetRec`.
     Let {
         binds: Items<Bind>,
         place: u32,
     },
+    /// `var` and binds
     Var {
         binds: Items<Bind>,
         place: u32,
     },
+    /// `let rec` and binds of procedures
     LetRec {
         binds: Items<RecBind>,
         place: u32,
@@ -73,6 +78,7 @@ pub enum Item {
         value: Expr,
         place: u32,
     },
+    /// An expression alone
     Plain(Expr),
 }
 
@@ -117,21 +123,27 @@ pub enum FieldExpr {
     },
 }
 
+/// An expression. Parentheses leave no node. A `Procedure` has the place of its `proc`, `Chain` and `Suffixed` that of their
+/// first operand; every other one has its own.
 #[cycle(tree)]
 #[derive(Drop)]
 pub enum Expr {
+    /// An integer literal; `~` before its digits is the minus.
     Int {
         value: i64,
         place: u32,
     },
+    /// A text literal, its escapes resolved.
     Str {
         text: Text,
         place: u32,
     },
+    /// `true` or `false`
     Truth {
         value: bool,
         place: u32,
     },
+    /// `ok`
     Okay {
         place: u32,
     },
@@ -140,29 +152,35 @@ pub enum Expr {
         name: Name,
         place: u32,
     },
+    /// `proc (parameters) body end`
     Procedure(Boxed<Proc>),
+    /// `[items]`
     Array {
         items: Items<Expr>,
         place: u32,
     },
+    /// `{flags, fields}`, fields in order; two may have one name.
     Object {
         flags: Flags,
         fields: Items<Field>,
         place: u32,
     },
-    /// `if` and each `elsif` are one arm; `last` is the `else` block.
+    /// `if` and each `elsif` are one arm, so there is one at least; `last` is the `else` block.
     If {
         arms: Items<Arm>,
         last: Option<Block>,
         place: u32,
     },
+    /// `loop body end`
     Loop {
         body: Block,
         place: u32,
     },
+    /// `exit`
     Exit {
         place: u32,
     },
+    /// `for name = from to to do body end`
     For {
         name: Name,
         from: Boxed<Expr>,
@@ -170,38 +188,44 @@ pub enum Expr {
         body: Block,
         place: u32,
     },
+    /// `foreach name in array do body end`
     Foreach {
         name: Name,
         array: Boxed<Expr>,
         body: Block,
         place: u32,
     },
-    /// Each `except` is one arm, whose test is the guard; `last` is the `else` block.
+    /// Each `except` is one arm, whose test is the guard, and there is one at least; `last` is the `else` block.
     Try {
         body: Block,
         arms: Items<Arm>,
         last: Option<Block>,
         place: u32,
     },
+    /// `try body finally last end`
     Finally {
         body: Block,
         last: Block,
         place: u32,
     },
+    /// `raise(value)`
     Raise {
         value: Boxed<Expr>,
         place: u32,
     },
+    /// `watch condition until guard end`
     Watch {
         condition: Boxed<Expr>,
         guard: Boxed<Expr>,
         place: u32,
     },
+    /// `redirect object to target end`
     Redirect {
         object: Boxed<Expr>,
         target: Boxed<Expr>,
         place: u32,
     },
+    /// `clone(objects)`, of which there is one at least.
     Clone {
         objects: Items<Expr>,
         place: u32,
@@ -228,6 +252,7 @@ pub struct Link {
     pub place: u32,
 }
 
+/// What is done to an operand. The place is that of the `(`, `.` or `[`.
 #[cycle(tree)]
 #[derive(Drop)]
 pub enum Suffix {

@@ -29,19 +29,16 @@ fn run_call<R: Threads + Wait + Sync + Print>(
     print_call(rt, alloc, call)
 }
 
-/// Runs a block of which each line is a case.
+/// Runs the cases that are a line each, with this text before each source.
 fn run_rows<R: Threads + Wait + Sync + Print>(
     rt: &R,
     alloc: Global,
-    block: &str,
+    before: &str,
+    rows: &str,
 ) -> io::Result<()> {
-    let mut before = "";
-    for line in block.split('\n') {
-        if let Some(text) = line.strip_prefix("before ") {
-            rt.println(line)?;
-            before = text;
-        } else if !line.is_empty() && !line.starts_with("#") {
-            print_row(rt, alloc, before, line)?;
+    for row in rows.split('\n') {
+        if !row.is_empty() && !row.starts_with("#") {
+            print_row(rt, alloc, before, row)?;
         }
     }
     Ok(())
@@ -53,11 +50,16 @@ fn run_block<R: Threads + Wait + Sync + Print>(
     block: &str,
 ) -> io::Result<()> {
     if block.starts_with("call") {
-        run_call(rt, alloc, block)?;
-    } else {
-        run_rows(rt, alloc, block)?;
+        return run_call(rt, alloc, block);
     }
-    rt.println("")
+    match block.strip_prefix("before ") {
+        Some(rest) => {
+            let (before, rows) = rest.split_once('\n').unwrap_or((rest, ""));
+            println!(rt; "before {before}")?;
+            run_rows(rt, alloc, before, rows)
+        }
+        None => run_rows(rt, alloc, "", block),
+    }
 }
 
 fn main(rt: HostRuntime) -> io::Result<()> {
@@ -66,6 +68,7 @@ fn main(rt: HostRuntime) -> io::Result<()> {
         let text = fs::read_to_string(&rt, path.as_str())?;
         for block in text.trim_end_matches('\n').split("\n\n") {
             run_block(&rt, alloc, block)?;
+            rt.println("")?;
         }
     }
     Ok(())

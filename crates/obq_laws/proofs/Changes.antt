@@ -1,21 +1,21 @@
 -- What an entry changes, and what the acts of owners need and keep.
-use Rattle.std.specs.Prelude.{Bool, List, None, Option, Some, T, [], false, if◌then◌else◌, length, nat_le, not, refl, slice_get, slice_set, suc, true, zero, ℕ, ◌++◌, ◌∷◌, ◌≡◌, ◌||◌, ◌⊎◌}
+use Rattle.std.specs.Prelude.{Bool, List, None, Option, Some, [], false, if◌then◌else◌, length, nat_le, not, refl, slice_get, slice_set, suc, true, ℕ, ◌++◌, ◌∷◌, ◌≡◌, ◌||◌, ◌⊎◌}
 use Rattle.std.proofs.Common.{inl, inr, subst, ap, sym, ◌∙◌}
 use Rattle.obq_base.specs.declared.limits.TheConstants.{THREAD_LIMIT}
 use Rattle.obq_base.specs.declared.acts.ActKind.{ActKind}
 use Rattle.obq_base.specs.declared.acts.Act.{Act}
 use Rattle.obq_model.specs.Terms.{Engine, Held, Value, Thread, Loc, Call, Term, Const, Form, Part, End}
-use Rattle.obq_model.specs.Exceptions.{raise, fork_limit, wrong_type}
-use Rattle.obq_model.specs.Store.{Cell, ObjectCell, ArrayCell, VariableCell, WriterCell, ConditionCell, EngineCell, Store, same_loc, exported}
+use Rattle.obq_model.specs.Exceptions.{raise, fork_limit}
+use Rattle.obq_model.specs.Store.{Cell, Store, same_loc, exported}
 use Rattle.obq_model.specs.Step.{Self, self_of, no_self, Operation, New, Get, CallMethod, Leave, Set, Copy, RedirectTo, GetItem, GetSize, EachSize, EachItem, SetItem, ReadVariable, SetVariable, Write, ForkOff, JoinWith, LineUp, GiveUp, Again, Signal, Broadcast, Export, Import, RunEngine, Frame, plug, Needs, find, self_at, testing}
-use Rattle.obq_model.specs.Forms.{Mark, Inside, LinedUp, marks_of}
-use Rattle.obq_model.specs.Config.{Execution, Running, Returned, Failed, ThreadState, Config, cell_at, with_cell}
+use Rattle.obq_model.specs.Forms.{Inside, LinedUp, marks_of}
+use Rattle.obq_model.specs.Config.{Execution, Running, Returned, Failed, ThreadState, Config, cell_at}
 use Rattle.obq_model.specs.Cells.{is_free, owned_cell}
 use Rattle.obq_model.specs.Effect.{Outcome, Waiting, Acting, Forking, ends_at, on_cell, line_of, in_line, imported, joined, perform, end_by}
-use Rattle.obq_model.specs.OneCell.{behind, SameKind, IsLeft, RowLeaves}
+use Rattle.obq_model.specs.OneCell.{behind, SameKind, RowLeaves}
 use Rattle.obq_model.proofs.Slices.{set_set}
 use Rattle.obq_model.proofs.OneCell.{leaves_cell, owned_same}
-use Rattle.obq_laws.specs.Keeping.{owner_at, holds, holds_now, owns, IsFormedConfig, IsFormedIf, OwnersHold, OwnersHoldIf}
+use Rattle.obq_laws.specs.Keeping.{owner_at, holds, holds_now, IsFormedConfig, IsFormedIf, OwnersHold, OwnersHoldIf}
 use Rattle.obq_laws.specs.Locality.{IsLocalStore, SameStore, OneCell, OneName, OneMore, IsLocal, Same, OneThread, OneBegins, Locality, OwnersKept, needs_owner, OwnerAtAct}
 use Rattle.obq_laws.specs.Turns.{state_of, Turn, Steps, Acts, Forks, Ends, Raises, Turns, NoTurn, TheAct, AStep}
 use Rattle.obq_laws.proofs.Methods.{leaving, marks_around, AreSourceFrames, IsSourceOperation, IsGood, good_find}

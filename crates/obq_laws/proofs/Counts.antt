@@ -1,6 +1,6 @@
 -- How many turns, threads and cells there are.
-use Rattle.std.specs.Prelude.{Bool, List, None, Option, Some, T, [], false, if◌then◌else◌, length, max, nat_le, not, refl, replicate, slice_get, slice_set, suc, true, zero, ℕ, ◌++◌, ◌+◌, ◌<◌, ◌∷◌, ◌≡◌, ◌||◌, ◌≤◌}
-use Rattle.std.proofs.Common.{inl, inr, subst, ap, sym, ◌∙◌, arith}
+use Rattle.std.specs.Prelude.{Bool, List, None, Option, Some, [], false, if◌then◌else◌, length, max, nat_le, not, refl, replicate, slice_get, slice_set, suc, true, zero, ℕ, ◌++◌, ◌+◌, ◌<◌, ◌∷◌, ◌≡◌, ◌||◌, ◌≤◌}
+use Rattle.std.proofs.Common.{inl, inr, subst, ap, sym, arith}
 use Rattle.std.proofs.lemmas.Bool.Decides.{nat_tests}
 use Rattle.obq_base.specs.declared.limits.TheConstants.{THREAD_LIMIT}
 use Rattle.obq_base.specs.declared.acts.ActKind.{ActKind}
@@ -19,7 +19,7 @@ use Rattle.obq_model.proofs.Slices.{set_length, push_length}
 use Rattle.obq_model.proofs.OneCell.{leaves_cell}
 use Rattle.obq_laws.specs.Counts.{total_used, UsedAtMost, AreFew, CountsLaw}
 use Rattle.obq_laws.specs.Locality.{IsLocalStore, SameStore, OneCell, OneName, OneMore}
-use Rattle.obq_laws.specs.Turns.{state_of, CanGo, Turn, Steps, Acts, Forks, Ends, Raises}
+use Rattle.obq_laws.specs.Turns.{state_of, Turn, Steps, Acts, Forks, Ends, Raises}
 use Rattle.obq_laws.proofs.Changes.{LocalOutcome, local_perform}
 use Rattle.obq_laws.proofs.Turns.{kept_by_replay}
 

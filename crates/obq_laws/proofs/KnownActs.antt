@@ -4,16 +4,16 @@ use Rattle.std.proofs.Common.{subst, sym}
 use Rattle.obq_base.specs.declared.limits.TheConstants.{THREAD_LIMIT}
 use Rattle.obq_base.specs.declared.acts.ActKind.{ActKind}
 use Rattle.obq_base.specs.declared.trees.Flags.{Flags}
-use Rattle.obq_model.specs.Terms.{Bytes, LocKind, Object, Variable, Engine, Value, Int, Okay, Text, Thread, Loc, FieldBody, IsValue, IsMethod, IsAlias, Fields, Bare, Field, Call, Select, Invoke, Called, Within, EachAt, EachIn, Cloning, Lined, Out, Term, Const, Form, Parts, End, Part}
+use Rattle.obq_model.specs.Terms.{Bytes, Object, Variable, Engine, Value, Okay, Thread, Loc, FieldBody, IsValue, IsMethod, IsAlias, Fields, Bare, Field, Call, Within, EachIn, Cloning, Lined, Term, Const, Form, End, Part}
 use Rattle.obq_model.specs.Put.{put_all, enter}
 use Rattle.obq_model.specs.Exceptions.{raise, arity, array_index, is_protected, fork_limit}
 use Rattle.obq_model.specs.Store.{Cell, ObjectCell, ArrayCell, VariableCell, WriterCell, ConditionCell, EngineCell, Store, same_loc, field, with_field, append_fields, aliased, exported, export}
-use Rattle.obq_model.specs.Step.{Self, After, Itself, Entered, Offered, Operation, New, Get, CallMethod, Leave, Set, Copy, RedirectTo, GetItem, GetSize, EachSize, EachItem, SetItem, ReadVariable, SetVariable, Write, ForkOff, JoinWith, LineUp, GiveUp, Again, Signal, Broadcast, Export, Import, RunEngine, values_before, body_with, testing}
+use Rattle.obq_model.specs.Step.{Self, After, Itself, Entered, Offered, Operation, New, Get, CallMethod, Leave, Set, Copy, RedirectTo, GetItem, GetSize, EachSize, EachItem, SetItem, ReadVariable, SetVariable, Write, ForkOff, JoinWith, LineUp, GiveUp, Again, Signal, Broadcast, Export, Import, RunEngine, values_before, testing}
 use Rattle.obq_model.specs.Config.{Execution, Running, Returned, Failed, ThreadState, Config, cell_at, with_cell}
-use Rattle.obq_model.specs.Cells.{is_clear, is_refused, mode_for, owner_for, at_target, set_at_target, is_alias, items_of, item_at, value_of, is_free, after_new}
+use Rattle.obq_model.specs.Cells.{is_clear, is_refused, mode_for, owner_for, set_at_target, is_alias, items_of, item_at, value_of, is_free, after_new}
 use Rattle.obq_model.specs.Effect.{Outcome, Waiting, Acting, Forking, get, invoke, set_here, set_field, on_object, at_object, item, set_item, set_variable, write, with_line, owned_by, line_of, in_line, imported, joined, perform}
 use Rattle.obq_model.proofs.Slices.{set_length}
-use Rattle.obq_laws.specs.Known.{Places, Threads, AllObjects, IsKnown, AreKnown, IsKnownValue, AreKnownFields, IsKnownBody, AllKnown, IsKnownCell, location_kind, IsKnownAfter, IsKnownOperation, AreKnownCells, AreKnownNames, IsKnownStore, IsKnownExecution, AreKnownThreads}
+use Rattle.obq_laws.specs.Known.{Places, Threads, IsKnown, AreKnown, IsKnownValue, AreKnownFields, IsKnownBody, AllKnown, IsKnownCell, location_kind, IsKnownAfter, IsKnownOperation, AreKnownCells, AreKnownNames, IsKnownStore, IsKnownExecution, AreKnownThreads}
 use Rattle.obq_laws.proofs.KnownStep.{known_put_all, known_enter, known_body}
 
 abbrev pub KnownOutcome : Places ℕ → Threads → Outcome → Type 0
@@ -24,7 +24,7 @@ KnownOutcome L T (Forking loc new focus) = IsKnown L T new × IsKnown L T focus
 -- what an operation makes is known
 abbrev pub MakesKnown : Places ℕ → Threads → Config → Operation ℕ → Type 0
 MakesKnown L T k (New cell after) = L (location_kind cell) (length k.store.cells)
-MakesKnown L T k (ForkOff f) = T (length k.threads)
+MakesKnown L T k (ForkOff f) = nat_le THREAD_LIMIT (length k.threads) ≡ false → T (length k.threads)
 MakesKnown L T k op = Unit {0}
 
 abbrev IsKnownSome : Places ℕ → Threads → Option (Cell ℕ) → Type 0
@@ -42,6 +42,10 @@ IsKnownIf L T (Some v) = IsKnownValue L T v
 outcome_if : (L : Places ℕ) (T : Threads) (b : Bool) (x y : Outcome) → KnownOutcome L T x → KnownOutcome L T y → KnownOutcome L T (if b then x else y)
 outcome_if L T true x y h i = h
 outcome_if L T false x y h i = i
+
+outcome_unless : (L : Places ℕ) (T : Threads) (b : Bool) (x y : Outcome) → KnownOutcome L T x → (b ≡ false → KnownOutcome L T y) → KnownOutcome L T (if b then x else y)
+outcome_unless L T true x y h i = h
+outcome_unless L T false x y h i = i refl
 
 -- ---- lists
 
@@ -268,7 +272,7 @@ known_perform L T k t s (ReadVariable l) i ts h m = (i, known_value L T (cell_at
 known_perform L T k t s (SetVariable l v) i ts h m = known_set_variable L T k.store l v (cell_at k.store l) i h.1
 known_perform L T k t s (Write w x) i ts h m = known_write L T k.store w x (cell_at k.store w) i
 known_perform L T k t s (ForkOff f) i ts h m =
-    outcome_if L T (nat_le THREAD_LIMIT (length k.threads)) (Acting ActKind.Fork THREAD_LIMIT k.store fork_limit) (Forking (length k.threads) (Form Call (Part (Const f) End)) (Const (Thread (length k.threads)))) (i, (tt, tt)) ((tt, (h, tt)), m)
+    outcome_unless L T (nat_le THREAD_LIMIT (length k.threads)) (Acting ActKind.Fork THREAD_LIMIT k.store fork_limit) (Forking (length k.threads) (Form Call (Part (Const f) End)) (Const (Thread (length k.threads)))) (i, (tt, tt)) (λ n. ((tt, (h, tt)), m n))
 known_perform L T k t s (JoinWith u) i ts h m = known_joined L T k.store u (slice_get k.threads u) i (thread_known L T k.threads u ts)
 known_perform L T k t s (LineUp o c guard) i ts h m = known_line L T ActKind.Line k.store c (λ line. line ++ t ∷ []) (Form (Lined o c) (Part guard End)) (cell_at k.store c) i ((h.0, h.1), (h.2, tt))
 known_perform L T k t s (GiveUp o c guard) i ts h m = (owned_known L T None k.store o (cell_at k.store o) i (known_get L T k.store.cells o i.0), ((h.0, h.1), (h.2, tt)))

@@ -1,19 +1,19 @@
 -- Which threads stand in the lines of conditions.
-use Rattle.std.specs.Prelude.{Bool, List, None, Option, Some, T, [], drop, false, if◌then◌else◌, length, nat_le, not, refl, replicate, slice_get, slice_set, suc, true, zero, ℕ, ◌++◌, ◌+◌, ◌<◌, ◌==◌, ◌∷◌, ◌≡◌, ◌||◌, ◌⊎◌}
+use Rattle.std.specs.Prelude.{Bool, List, None, Option, Some, T, [], drop, false, if◌then◌else◌, length, nat_le, not, refl, replicate, slice_get, slice_set, suc, true, zero, ℕ, ◌++◌, ◌<◌, ◌==◌, ◌∷◌, ◌≡◌, ◌||◌}
 use Rattle.std.proofs.Common.{inl, inr, subst, ap, sym, ◌∙◌, arith}
 use Rattle.std.proofs.lemmas.Bool.{eqb-true, eqb-false}
 use Rattle.obq_base.specs.declared.limits.TheConstants.{THREAD_LIMIT}
 use Rattle.obq_base.specs.declared.acts.ActKind.{ActKind}
 use Rattle.obq_base.specs.declared.acts.Act.{Act}
 use Rattle.obq_base.specs.Tree.{BlockTree}
-use Rattle.obq_model.specs.Terms.{Engine, Value, Thread, Loc, Call, Lined, Out, Raised, Exn, ExitUp, Term, Const, Form, Part, End}
-use Rattle.obq_model.specs.Exceptions.{raise, fork_limit, exit_outside}
+use Rattle.obq_model.specs.Terms.{Engine, Value, Thread, Loc, Call, Lined, Out, Term, Const, Form, Part, End}
+use Rattle.obq_model.specs.Exceptions.{raise, fork_limit}
 use Rattle.obq_model.specs.Store.{Cell, ObjectCell, ArrayCell, VariableCell, WriterCell, ConditionCell, EngineCell, Store, same_loc, exported}
-use Rattle.obq_model.specs.Step.{Self, no_self, Operation, New, Get, CallMethod, Leave, Set, Copy, RedirectTo, GetItem, GetSize, EachSize, EachItem, SetItem, ReadVariable, SetVariable, Write, ForkOff, JoinWith, LineUp, GiveUp, Again, Signal, Broadcast, Export, Import, RunEngine, Frame, plug, Found, Next, Needs, Done, Uncaught, find, next_of, pure, self_at, testing}
+use Rattle.obq_model.specs.Step.{Self, no_self, Operation, New, Get, CallMethod, Leave, Set, Copy, RedirectTo, GetItem, GetSize, EachSize, EachItem, SetItem, ReadVariable, SetVariable, Write, ForkOff, JoinWith, LineUp, GiveUp, Again, Signal, Broadcast, Export, Import, RunEngine, Frame, plug, Found, Next, Needs, Done, Uncaught, find, next_of, self_at, testing}
 use Rattle.obq_model.specs.Config.{Execution, Running, Returned, Failed, ThreadState, Config, cell_at, with_cell}
 use Rattle.obq_model.specs.Cells.{is_free, owned_cell}
 use Rattle.obq_model.specs.Effect.{Outcome, Waiting, Acting, Forking, ends_at, on_cell, line_of, in_line, imported, joined, with_line, perform, end_by}
-use Rattle.obq_model.specs.OneCell.{cell_of, behind, SameKind, line_behind, IsLeft, RowLeaves}
+use Rattle.obq_model.specs.OneCell.{cell_of, behind, SameKind, line_behind, RowLeaves}
 use Rattle.obq_model.specs.Opening.{opening_terms, opening}
 use Rattle.obq_model.proofs.Slices.{get_below, set_same, set_other, push_other}
 use Rattle.obq_model.proofs.OneCell.{leaves_cell, owned_same, owned_line}
@@ -21,12 +21,12 @@ use Rattle.obq_model.proofs.Plug.{needs_plug}
 use Rattle.obq_model.proofs.Found.{needs_frames}
 use Rattle.obq_laws.specs.Keeping.{IsFormedConfig, IsFormedIf}
 use Rattle.obq_laws.specs.Lines.{count_in, line_at, lined_at, IsLinedAt, LinesHold, LinesLaw, OneLine}
-use Rattle.obq_laws.specs.Turns.{state_of, changed, with_thread, alone, CanGo, Turn, Steps, Acts, Forks, Ends, Raises}
+use Rattle.obq_laws.specs.Turns.{state_of, changed, with_thread, alone, Turn, Steps, Acts, Forks, Ends, Raises}
 use Rattle.obq_model.specs.Forms.{marks_of}
 use Rattle.obq_laws.proofs.Methods.{IsSourceOperation, IsGood, good_find}
 use Rattle.obq_laws.proofs.Formed.{GoodThreadState, good_state, entry_formed, opening_of_formed}
 use Rattle.obq_laws.proofs.OwnerLaw.{eq_refl}
-use Rattle.obq_laws.proofs.Turns.{turn_taken, KeptByTurns, kept_by_replay}
+use Rattle.obq_laws.proofs.Turns.{turn_taken, kept_by_replay}
 
 true_false : true ≡ false → ⊥
 true_false e = subst T e tt
@@ -350,15 +350,17 @@ own_lines k t used u (LineUp o q guard) fs st focus n law here found left w c i 
     nowhere j = let e : None ≡ Some c = next_at k t used u (Needs (LineUp o q guard) fs) law here found c j in absurd (cc e)
 
     by : (b : Bool) → (c == q) ≡ b → line_at st c ≡ (if b then line_at k.store c ++ t ∷ [] else line_at k.store c) → (count_in t (line_at st c) ≡ 1) × IsLinedAt (Some (state_of (Running (plug fs focus)) n)) c
-    by true e l =
-        (ap (count_in t) l ∙ added_once t (line_at k.store c) (not_true (in_line t (line_at k.store c)) nowhere),
-        (plug fs focus, n, GiveUp o q guard, fs ++ [], refl, next_in u (LineUp o q guard) fs focus (Form (Lined o q) (Part guard End)) (GiveUp o q guard) found w (λ a s. refl), ap Some (sym (eqb-true c q e))))
+    by true e l = (
+      ap (count_in t) l ∙ added_once t (line_at k.store c) (not_true (in_line t (line_at k.store c)) nowhere),
+      (plug fs focus, n, GiveUp o q guard, fs ++ [], refl, next_in u (LineUp o q guard) fs focus (Form (Lined o q) (Part guard End)) (GiveUp o q guard) found w (λ a s. refl), ap Some (sym (eqb-true c q e))),
+    )
     by false e l = absurd (nowhere (sym (ap (in_line t) l) ∙ i))
 own_lines k t used u (GiveUp o q guard) fs st focus n law here found left w c i =
     let same : line_at st c ≡ line_at k.store c = left c ∙ both (is_at c (Some o)) in
-    let old : in_line t (line_at k.store c) ≡ true = sym (ap (in_line t) same) ∙ i in
-    (ap (count_in t) same ∙ (law c t old).0,
-    (plug fs focus, n, Again o q guard, fs ++ [], refl, next_in u (GiveUp o q guard) fs focus (Form (Out o q) (Part guard End)) (Again o q guard) found w (λ a s. refl), next_at k t used u (Needs (GiveUp o q guard) fs) law here found c old))
+    let old : in_line t (line_at k.store c) ≡ true = sym (ap (in_line t) same) ∙ i in (
+      ap (count_in t) same ∙ (law c t old).0,
+      (plug fs focus, n, Again o q guard, fs ++ [], refl, next_in u (GiveUp o q guard) fs focus (Form (Out o q) (Part guard End)) (Again o q guard) found w (λ a s. refl), next_at k t used u (Needs (GiveUp o q guard) fs) law here found c old),
+    )
   where
     both : (b : Bool) → (if b then line_at k.store c else line_at k.store c) ≡ line_at k.store c
     both true = refl

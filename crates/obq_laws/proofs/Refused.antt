@@ -140,6 +140,7 @@ first_from turns k m (s ∷ ss) t h = by (is_able_execution turns k m s.used s.e
 pub first_able_law : FirstAble
 first_able_law turns k t h =
     let f : FirstFrom turns k 0 k.threads t = first_from turns k 0 k.threads t h in
-    let same : t ≡ f.0 = f.1 ∙ zero_plus f.0 in
-    (ap (λ n. able_at turns k n (slice_get k.threads n)) same ∙ ap (λ n. able_at turns k n (slice_get k.threads f.0)) (sym (zero_plus f.0)) ∙ f.2,
-    (λ u l. ap (λ n. able_at turns k n (slice_get k.threads u)) (sym (zero_plus u)) ∙ f.3 u (subst (λ n. u < n) same l)))
+    let same : t ≡ f.0 = f.1 ∙ zero_plus f.0 in (
+      ap (λ n. able_at turns k n (slice_get k.threads n)) same ∙ ap (λ n. able_at turns k n (slice_get k.threads f.0)) (sym (zero_plus f.0)) ∙ f.2,
+      (λ u l. ap (λ n. able_at turns k n (slice_get k.threads u)) (sym (zero_plus u)) ∙ f.3 u (subst (λ n. u < n) same l)),
+    )

@@ -1,5 +1,5 @@
 -- An entry turn by turn, and what each turn keeps every replay keeps.
-use Rattle.std.specs.Prelude.{Bool, List, None, Option, Some, T, [], false, if◌then◌else◌, is_none, length, nat_lt, refl, slice_get, slice_index_or, slice_set, suc, true, unwrap_or, zero, ℕ, ◌++◌, ◌+◌, ◌<◌, ◌∷◌, ◌≡◌}
+use Rattle.std.specs.Prelude.{Bool, List, None, Option, Some, [], false, if◌then◌else◌, length, nat_lt, refl, slice_get, slice_index_or, slice_set, suc, true, unwrap_or, zero, ℕ, ◌++◌, ◌+◌, ◌<◌, ◌∷◌, ◌≡◌}
 use Rattle.std.proofs.Common.{subst, ap, sym, ◌∙◌, arith}
 use Rattle.std.proofs.lemmas.Option.{get_or_from_slice_get}
 use Rattle.std.proofs.lemmas.Bool.Decides.{nat_tests}
@@ -7,14 +7,14 @@ use Rattle.obq_base.specs.declared.acts.ActKind.{ActKind}
 use Rattle.obq_base.specs.declared.acts.Act.{Act}
 use Rattle.obq_base.specs.declared.acts.Entry.{Entry}
 use Rattle.obq_base.specs.Tree.{BlockTree}
-use Rattle.obq_model.specs.Terms.{Value, Raised, Term}
-use Rattle.obq_model.specs.Store.{Store, same_loc}
-use Rattle.obq_model.specs.Step.{no_self, Operation, Frame, plug, Found, Next, Needs, Done, Uncaught, find, pure, self_at}
+use Rattle.obq_model.specs.Terms.{Term}
+use Rattle.obq_model.specs.Store.{same_loc}
+use Rattle.obq_model.specs.Step.{no_self, plug, Found, Next, Needs, Done, Uncaught, find, pure, self_at}
 use Rattle.obq_model.specs.Config.{Execution, Running, Returned, Failed, ThreadState, Config, act, with_execution}
-use Rattle.obq_model.specs.Effect.{Outcome, Waiting, Acting, Forking, perform, Effect, Does, Waits, Nothing, after_outcome, end_by, effect_of, effect_of_state, effect}
+use Rattle.obq_model.specs.Effect.{Outcome, Waiting, Acting, Forking, perform, Does, after_outcome, end_by, effect_of, effect_of_state, effect}
 use Rattle.obq_model.specs.Opening.{opening}
 use Rattle.obq_model.specs.Replay.{after_pure, kind_same, act_same, spend, with_turns, exactly, then_act, act_turns, take_of, take_execution, take_state, take_entry, replay_from, replay}
-use Rattle.obq_model.proofs.Slices.{get_below, set_same, set_other, set_set, set_own, set_length, push_other, push_set}
+use Rattle.obq_model.proofs.Slices.{get_below, set_same, set_set, set_own, set_length, push_other, push_set}
 use Rattle.obq_laws.specs.Determinism.{entry_of}
 use Rattle.obq_laws.specs.Turns.{state_of, changed, with_thread, CanGo, Turn, Steps, Acts, Forks, Ends, Raises, Turns, NoTurn, TheAct, AStep, TurnByTurn, alone, TurnTaken}
 use Rattle.obq_laws.proofs.HeldActs.{none_some}

@@ -1,5 +1,5 @@
 -- How many turns, threads and cells there are.
-use Rattle.std.specs.Prelude.{List, None, Option, Some, [], length, max, slice_get, ℕ, ◌+◌, ◌∷◌, ◌≡◌, ◌≤◌}
+use Rattle.std.specs.Prelude.{List, Some, [], length, max, ℕ, ◌+◌, ◌∷◌, ◌≡◌, ◌≤◌}
 use Rattle.obq_base.specs.declared.acts.Entry.{Entry}
 use Rattle.obq_base.specs.Tree.{BlockTree}
 use Rattle.obq_model.specs.Config.{ThreadState, Config}

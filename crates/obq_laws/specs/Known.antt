@@ -6,7 +6,7 @@ use Rattle.obq_base.specs.Tree.{BlockTree}
 use Rattle.obq_model.specs.Terms.{Bytes, LocKind, Object, Array, Variable, Writer, Condition, Engine, Value, Thread, Closure, Member, Loc, FieldBody, IsValue, IsMethod, IsAlias, Fields, Bare, Field, Kind, Read, Within, EachAt, EachIn, Cloning, Testing, Lined, Out, Term, Const, Name, Under, Form, Parts, End, Part}
 use Rattle.obq_model.specs.Depth.{deepest, deepest_of}
 use Rattle.obq_model.specs.Store.{Cell, ObjectCell, ArrayCell, VariableCell, WriterCell, ConditionCell, EngineCell, Store, same_loc}
-use Rattle.obq_model.specs.Step.{Self, no_self, After, Itself, Entered, Offered, Operation, New, Get, CallMethod, Leave, Set, Copy, RedirectTo, GetItem, GetSize, EachSize, EachItem, SetItem, ReadVariable, SetVariable, Write, ForkOff, JoinWith, LineUp, GiveUp, Again, Signal, Broadcast, Export, RunEngine, Frame, Pending, Found, Next, Needs, Done, Uncaught, params_of, find}
+use Rattle.obq_model.specs.Step.{no_self, After, Itself, Entered, Offered, Operation, New, Get, CallMethod, Leave, Set, Copy, RedirectTo, GetItem, GetSize, EachSize, EachItem, SetItem, ReadVariable, SetVariable, Write, ForkOff, JoinWith, LineUp, GiveUp, Again, Signal, Broadcast, Export, RunEngine, Frame, Pending, Found, Next, Needs, Done, Uncaught, params_of, find}
 use Rattle.obq_model.specs.Config.{Execution, Running, Returned, Failed, ThreadState, Config, cell_at}
 use Rattle.obq_model.specs.Replay.{replay}
 use Rattle.obq_laws.specs.Turns.{state_of}

@@ -1,5 +1,5 @@
 -- Which threads stand in the lines of conditions.
-use Rattle.std.specs.Prelude.{Bool, List, None, Option, Some, [], false, if◌then◌else◌, slice_get, suc, true, ℕ, ◌==◌, ◌∷◌, ◌≡◌}
+use Rattle.std.specs.Prelude.{List, None, Option, Some, [], if◌then◌else◌, slice_get, suc, true, ℕ, ◌==◌, ◌∷◌, ◌≡◌}
 use Rattle.obq_base.specs.declared.acts.Entry.{Entry}
 use Rattle.obq_base.specs.Tree.{BlockTree}
 use Rattle.obq_model.specs.Terms.{Term}

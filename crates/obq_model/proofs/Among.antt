@@ -1,5 +1,5 @@
 -- Names among names.
-use Rattle.std.specs.Prelude.{Bool, List, T, [], bytes_eq, false, refl, true, ℕ, ◌++◌, ◌⊎◌, ◌∷◌, ◌≡◌, ◌||◌}
+use Rattle.std.specs.Prelude.{Bool, List, T, [], bytes_eq, false, refl, true, ◌++◌, ◌⊎◌, ◌∷◌, ◌≡◌, ◌||◌}
 use Rattle.std.proofs.lemmas.Slice.Eq.{bytes_eq-Decides}
 use Rattle.std.proofs.Common.{inl, inr, subst, ap, sym, ◌∙◌}
 use Rattle.obq_model.specs.Terms.{Bytes}

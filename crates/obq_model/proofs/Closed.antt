@@ -1,5 +1,5 @@
 -- The term of a source's block without an unbound name is closed.
-use Rattle.std.specs.Prelude.{Bool, List, [], false, refl, true, ℕ, ◌≡◌}
+use Rattle.std.specs.Prelude.{Bool, [], false, refl, true, ◌≡◌}
 use Rattle.std.proofs.Common.{ap, sym, ◌∙◌}
 use Rattle.obq_base.specs.Tree.{BlockTree}
 use Rattle.obq_model.specs.Depth.{deepest}

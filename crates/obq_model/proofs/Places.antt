@@ -1,9 +1,9 @@
 -- The last place of a name among names.
-use Rattle.std.specs.Prelude.{Bool, List, None, Option, Some, [], bytes_eq, false, if◌then◌else◌, is_some, length, refl, slice_get, suc, true, unwrap_or, zero, ℕ, ◌+◌, ◌<◌, ◌∷◌, ◌≡◌, ◌||◌}
+use Rattle.std.specs.Prelude.{Bool, List, None, Option, Some, [], bytes_eq, false, if◌then◌else◌, is_some, length, refl, suc, true, unwrap_or, ℕ, ◌+◌, ◌<◌, ◌∷◌, ◌≡◌, ◌||◌}
 use Rattle.std.proofs.Common.{ap, sym, ◌∙◌, arith}
 use Rattle.obq_model.specs.Terms.{Bytes}
 use Rattle.obq_model.specs.Put.{among}
-use Rattle.obq_model.specs.Scopes.{last_place, last_place_from}
+use Rattle.obq_model.specs.Scopes.{last_place_from}
 use Rattle.obq_model.proofs.Among.{true_false}
 
 -- the first of two, where there is one

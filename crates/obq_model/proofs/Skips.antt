@@ -1,5 +1,5 @@
 -- Where a draft leaves its rest: behind so many trees, by the numbers of children alone.
-use Rattle.std.specs.Prelude.{List, Option, [], refl, suc, ℕ, ◌+◌, ◌∷◌, ◌≡◌}
+use Rattle.std.specs.Prelude.{List, Option, refl, suc, ℕ, ◌+◌, ◌∷◌, ◌≡◌}
 use Rattle.std.proofs.Common.{ap, sym, ◌∙◌, arith}
 use Rattle.obq_base.specs.declared.code.CodeNo.{CodeNo}
 use Rattle.obq_base.specs.declared.code.Node.{Node}

@@ -2,7 +2,6 @@
 use Rattle.std.specs.Prelude.{Bool, List, None, Option, Some, [], bytes_eq, false, if◌then◌else◌, is_some, length, refl, suc, true, ℕ, ◌+◌, ◌<◌, ◌∷◌, ◌≡◌, ◌||◌}
 use Rattle.std.proofs.Common.{ap, sym, ◌∙◌, arith, subst}
 use Rattle.std.proofs.lemmas.Slice.Eq.{bytes_eq-Decides}
-use Rattle.obq_base.specs.declared.code.Slot.{Slot}
 use Rattle.obq_base.specs.declared.code.Slot.TheVariants as s
 use Rattle.obq_model.specs.CodeLaws.{IsInnermost, IsLast, IsWithin}
 use Rattle.obq_model.specs.Terms.{Bytes}

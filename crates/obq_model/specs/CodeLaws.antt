@@ -8,7 +8,7 @@ use Rattle.obq_base.specs.declared.code.Slot.TheVariants as s
 use Rattle.obq_base.specs.declared.code.SourceCode.{SourceCode}
 use Rattle.obq_base.specs.declared.trees.Block.{Block}
 use Rattle.obq_base.specs.View.{block_tree}
-use Rattle.obq_model.specs.Terms.{Bytes, Exn, Raising, Term, Form, End}
+use Rattle.obq_model.specs.Terms.{Bytes, Exn, Raising, Term, Form}
 use Rattle.obq_model.specs.Exceptions.{arity, array_index, array_limit, call_limit, closure_limit, compare_closure, exit_outside, field_missing, field_twice, fork_limit, int_divide, int_overflow, is_protected, not_method, not_serialized, not_value, not_variable, text_limit, text_range, wrong_type}
 use Rattle.obq_model.specs.Procedures.{Proc, main_proc}
 use Rattle.obq_model.specs.Resolved.{IsNumbered, code_at}

@@ -59,13 +59,13 @@ pub record Located : Type 0 where
 
 -- the activations in a term
 abbrev mutual
-  pub activations_of : Term ℕ → ℕ
+  pub activations_of : {R : Type 0} → Term R → ℕ
   activations_of (Const v) = 0
   activations_of (Name x) = 0
   activations_of (Under names t) = 0
   activations_of (Form k parts) = activations_in (activations_of_parts parts) k
 
-  pub activations_of_parts : Parts ℕ → ℕ
+  pub activations_of_parts : {R : Type 0} → Parts R → ℕ
   activations_of_parts End = 0
   activations_of_parts (Part t parts) = activations_of t + activations_of_parts parts
 

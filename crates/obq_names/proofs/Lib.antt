@@ -1,4 +1,5 @@
 pub mod Less
+pub mod Longer
 pub mod Placed
 pub mod PlaceUpdates
 pub mod Unions

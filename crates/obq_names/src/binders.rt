@@ -36,6 +36,7 @@ impl Model for Binders {
 }
 
 impl Binders {
+    /// No names. It takes no memory.
     pub fn new(alloc: Global) -> Binders
         ensures { result ≡ [] }
     {
@@ -48,12 +49,14 @@ impl Binders {
         }
     }
 
+    /// The number of names, equal ones counted each.
     pub fn len(&self) -> usize
         ensures { result ≡ length self.now }
     {
         self.names.len()
     }
 
+    /// Appends a name; its place is the number of names before it. `NoMemory` where the list or its index can't grow.
     pub fn push(&mut self, name: Name) -> Result<(), NoMemory>
         ensures { OnOk result (self.new ≡ self.old ++ name ∷ []) }
     {
@@ -94,12 +97,14 @@ impl Binders {
         }
     }
 
+    /// The names in order.
     pub fn as_slice(&self) -> &[Name]
         ensures { result.now ≡ self.now }
     {
         self.names.as_slice()
     }
 
+    /// The names in order, which it gives up.
     pub fn into_names(self) -> Items<Name>
         ensures { result ≡ self }
     {
@@ -107,6 +112,7 @@ impl Binders {
         Items::from_vec(names)
     }
 
+    /// Whether one of them is equal.
     pub fn contains(&self, name: &Name) -> bool
         ensures { result ≡ among name.now self.now }
     {

@@ -1,6 +1,6 @@
 //! What goes over a tree: the state of the walk.
 
-ghost use Rattle.std.specs.Prelude.{◌≡◌, ◌∷◌, [], IfOk, OnOk};
+ghost use Rattle.std.specs.Prelude.{◌≡◌, ◌<◌, ◌∷◌, [], IfOk, OnOk};
 
 use crate::binders::Binders;
 use obq_base::{Name, NoMemory, Occurrence};
@@ -138,6 +138,7 @@ impl Walker {
 
     /// It ends. What it captures and the procedure around it doesn't bind, that one captures too.
     pub fn leave(&mut self, alloc: Global, outer: Outer) -> Result<(), NoMemory>
+        requires { outer.place < length self.now.captures }
         ensures { OnOk result (self.new ≡ left outer self.old) }
     {
         let Outer {
@@ -150,10 +151,7 @@ impl Walker {
         self.base = base;
         let inner = replace(&mut self.names, names);
         self.capture_all(alloc, inner.as_slice())?;
-        // The place is one of them: `enter` made it.
-        if place < self.captures.len() {
-            self.captures.set(place, inner.into_names());
-        }
+        self.captures.set(place, inner.into_names());
         Ok(())
     }
 

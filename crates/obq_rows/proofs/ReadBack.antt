@@ -3,9 +3,12 @@ use Rattle.std.specs.Prelude.{List, [], codes, false, refl, true, ℕ, ◌∷◌
 use Prim.Native.String.{String}
 use Rattle.obq_base.specs.declared.trees.Operator.{Operator}
 use Rattle.obq_base.specs.Tree.{BlockTree, ItemTree, LetItem, VarItem, LetRecItem, NoBinds, ABind, RecBindTrees, NoRecBinds, ARecBind, AProc}
-use Rattle.obq_model.specs.Opened.{open_block}
+use Rattle.obq_model.specs.Occurrences.{builtin_row}
+use Rattle.obq_model.specs.Opened.{builtin_at, open_block}
 use Rattle.obq_model.specs.Opening.{block_term}
-use Rattle.obq_model.specs.Scopes.{outermost}
+use Rattle.obq_base.specs.declared.code.Slot.TheVariants as s
+use Rattle.obq_model.specs.Draft.{captured_by, captured_by_group}
+use Rattle.obq_model.specs.Scopes.{Outside, outermost, slot_of, slots_of}
 use Rattle.obq_model.specs.Terms.{Bytes, Term}
 use Rattle.obq_rows.specs.Sources.{block, then_run, bind_let, bind_var, bind_rec, assign, set_value, set_method, set_alias, set_index, int, text, truth, okay, named, procedure, array, flags, object, value_field, method_field, alias_field, arm, choose_arm, choose_arm_else, looped, leave_loop, counted, for_each, try_except, try_except_else, try_finally, raise_it, watch_until, redirect_to, clone_of, operated, then_operate, chained, applied, selected, invoked, at_index, suffixed, call_of, call_named, select, call_method, index, print, exception_named}
 
@@ -136,11 +139,13 @@ suffixes_of_each_kind = refl
 -- wr_putText(stdout, "hi")
 a_built_in_that_is_called : read_back (then_run (print (text "hi")) ∷ [])
     ≡ opened (then_run (print (text "hi")) ∷ [])
+unfolding builtin_at builtin_row
 a_built_in_that_is_called = refl
 
 -- array_new(2, 0)[1]
 a_built_in_and_more_suffixes : read_back (then_run (suffixed (named "array_new") (applied ((int 2) ∷ (int 0) ∷ []) ∷ at_index (int 1) ∷ [])) ∷ [])
     ≡ opened (then_run (suffixed (named "array_new") (applied ((int 2) ∷ (int 0) ∷ []) ∷ at_index (int 1) ∷ [])) ∷ [])
+unfolding builtin_at builtin_row
 a_built_in_and_more_suffixes = refl
 
 -- let fmt_int = proc(n) n end; fmt_int(1)
@@ -151,11 +156,13 @@ a_built_in_that_is_covered = refl
 -- proc(not) not(true) end; not(true)
 a_built_in_covered_inside : read_back (then_run (procedure (codes "not" ∷ []) (then_run (call_named "not" ((truth true) ∷ [])) ∷ [])) ∷ then_run (call_named "not" ((truth true) ∷ [])) ∷ [])
     ≡ opened (then_run (procedure (codes "not" ∷ []) (then_run (call_named "not" ((truth true) ∷ [])) ∷ [])) ∷ then_run (call_named "not" ((truth true) ∷ [])) ∷ [])
+unfolding builtin_at builtin_row
 a_built_in_covered_inside = refl
 
 -- let x = 1; proc() fmt_int(x) end
 a_built_in_in_a_procedure : read_back (bind_let "x" (int 1) ∷ then_run (procedure ([]) (then_run (call_named "fmt_int" ((named "x") ∷ [])) ∷ [])) ∷ [])
     ≡ opened (bind_let "x" (int 1) ∷ then_run (procedure ([]) (then_run (call_named "fmt_int" ((named "x") ∷ [])) ∷ [])) ∷ [])
+unfolding builtin_at builtin_row
 a_built_in_in_a_procedure = refl
 
 -- stdout; let stdout = 1; proc() stdout end
@@ -176,6 +183,7 @@ conditions = refl
 -- let e = exception("x"); try raise(e) except e => 1 else e end; try e finally e end
 handlers : read_back (bind_let "e" (exception_named "x") ∷ then_run (try_except_else (then_run (raise_it (named "e")) ∷ []) (arm (named "e") (then_run (int 1) ∷ []) ∷ []) (then_run (named "e") ∷ [])) ∷ then_run (try_finally (then_run (named "e") ∷ []) (then_run (named "e") ∷ [])) ∷ [])
     ≡ opened (bind_let "e" (exception_named "x") ∷ then_run (try_except_else (then_run (raise_it (named "e")) ∷ []) (arm (named "e") (then_run (int 1) ∷ []) ∷ []) (then_run (named "e") ∷ [])) ∷ then_run (try_finally (then_run (named "e") ∷ []) (then_run (named "e") ∷ [])) ∷ [])
+unfolding builtin_at builtin_row
 handlers = refl
 
 -- var n = 0; loop n; exit end
@@ -192,3 +200,55 @@ objects_again = refl
 nothing : read_back []
     ≡ opened []
 nothing = refl
+
+-- ---- slots
+
+abbrev knows : (members captured : List Bytes) → Outside
+knows members captured = record { source = 5; members = members; captured = captured }
+
+abbrev a : Bytes
+a = codes "a"
+
+abbrev b : Bytes
+b = codes "b"
+
+the_last_of_equal_locals : slot_of (knows [] []) (a ∷ b ∷ a ∷ b ∷ []) a ≡ s.Local 2
+the_last_of_equal_locals = refl
+
+the_last_of_equal_members_has_the_slot : slot_of (knows (a ∷ a ∷ b ∷ []) []) (b ∷ []) a ≡ s.Member 1
+the_last_of_equal_members_has_the_slot = refl
+
+a_local_before_a_member : slot_of (knows (a ∷ []) (a ∷ [])) (b ∷ a ∷ []) a ≡ s.Local 1
+a_local_before_a_member = refl
+
+a_member_before_a_capture : slot_of (knows (b ∷ a ∷ []) (a ∷ [])) (b ∷ []) a ≡ s.Member 1
+a_member_before_a_capture = refl
+
+a_captured_one : slot_of (knows (b ∷ []) (b ∷ a ∷ [])) [] a ≡ s.Captured 1
+a_captured_one = refl
+
+the_writer_of_the_source : slot_of (knows (b ∷ []) (a ∷ [])) (a ∷ []) (codes "stdout") ≡ s.Stdout 5
+the_writer_of_the_source = refl
+
+-- proc() b; a; b end
+captures_in_the_order_of_occurrences : captured_by (outermost 5) (a ∷ b ∷ []) (AProc [] (block (then_run (named "b") ∷ then_run (named "a") ∷ then_run (named "b") ∷ [])) 0) ≡ b ∷ a ∷ []
+captures_in_the_order_of_occurrences = refl
+
+their_slots : slots_of (outermost 5) (a ∷ b ∷ []) (b ∷ a ∷ []) ≡ s.Local 1 ∷ s.Local 0 ∷ []
+their_slots = refl
+
+-- proc(a) a end
+a_parameter_is_not_captured : captured_by (outermost 5) (a ∷ []) (AProc (a ∷ []) (block (then_run (named "a") ∷ [])) 0) ≡ []
+a_parameter_is_not_captured = refl
+
+-- proc(a) proc() a; b end end
+what_is_bound_between_is_not_captured : captured_by (outermost 5) (a ∷ b ∷ []) (AProc (a ∷ []) (block (then_run (procedure [] (then_run (named "a") ∷ then_run (named "b") ∷ [])) ∷ [])) 0) ≡ b ∷ []
+what_is_bound_between_is_not_captured = refl
+
+-- let rec a = proc() a(); b end
+members_are_not_captured : captured_by_group (outermost 5) (a ∷ b ∷ []) (member "a" [] (then_run (call_named "a" []) ∷ then_run (named "b") ∷ []) NoRecBinds) ≡ b ∷ []
+members_are_not_captured = refl
+
+-- proc() a(); fmt_int(1) end, in a code of a group that has a
+a_captured_member_and_a_built_in : captured_by (knows (a ∷ []) []) [] (AProc [] (block (then_run (call_named "a" []) ∷ then_run (call_named "fmt_int" (int 1 ∷ [])) ∷ [])) 0) ≡ a ∷ []
+a_captured_member_and_a_built_in = refl

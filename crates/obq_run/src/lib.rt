@@ -16,4 +16,5 @@ mod top;
 pub use check::check_sources;
 pub use ends::{Cause, End};
 pub use journals::Journal;
+pub use obq_base::{Entry, SourceFault};
 pub use top::obliq;

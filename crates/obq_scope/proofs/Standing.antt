@@ -220,8 +220,8 @@ mutual
         );
         stand = λ f k. codes_append f source (length out.codes) m.codes s.codes m.procs s.procs (length inner.codes) here
             (m.stand f (knows_left f source (length out.codes) m.procs s.procs k)
-                (λ number p i e. record { around = w.0.around; names = w.0.names; binds = bs; outside = w.0.outside; members = m.tells f (knows_left f source (length out.codes) m.procs s.procs k); own = e })
-                (λ j number e. ap (slice_get numbers) (none_more j) ∙ e))
+            (λ number p i e. record { around = w.0.around; names = w.0.names; binds = bs; outside = w.0.outside; members = m.tells f (knows_left f source (length out.codes) m.procs s.procs k); own = e })
+            (λ j number e. ap (slice_get numbers) (none_more j) ∙ e))
             (s.stand f (knows_right f source (length out.codes) m.procs s.procs (length inner.codes) (here ∙ ap (λ j. length out.codes + j) m.many) k));
       } where
         none_more : (j : ℕ) → 0 + j ≡ j

@@ -39,11 +39,7 @@ pub fn push_item_head(coder: &mut Coder, item: &Item) -> Result<(), NoMemory>
 }
 
 /// The row of the built-in that such a head and suffixes call.
-pub fn find_called(
-    coder: &Coder,
-    head: &Expr,
-    suffixes: &[Suffix],
-) -> Result<Option<u32>, NoMemory>
+pub fn find_called(coder: &Coder, head: &Expr, suffixes: &[Suffix]) -> Result<Option<u32>, NoMemory>
     ensures { IfOk result (λ row. row ≡ called_row (seen coder.now.outside) coder.now.locals (expr_tree head.now) (suffix_trees suffixes.now)) }
 {
     find_row(&coder.outside, &coder.locals, head, suffixes)

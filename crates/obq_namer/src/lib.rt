@@ -1,0 +1,9 @@
+//! The table of a name server.
+#![tactic(auto)]
+
+mod namer;
+
+pub use namer::Namer;
+
+#[cfg(test)]
+mod tests;
