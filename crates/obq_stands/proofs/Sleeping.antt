@@ -52,7 +52,7 @@ term_in d (Some state) = elim state.execution [ Running u ↦ u | Returned v ↦
 pub running_one : (s : Option ThreadState) (u v : Term ℕ) (a b : ℕ) → s ≡ Some (record { execution = Running u; used = a }) → s ≡ Some (record { execution = Running v; used = b }) → u ≡ v
 running_one s u v a b e f = ap (term_in u) (sym e ∙ f)
 
-needs_one : (x : Found ℕ) (op op2 : Operation ℕ) (fs gs : List (Frame ℕ)) → x ≡ Needs op fs → x ≡ Needs op2 gs → op ≡ op2
+pub needs_one : (x : Found ℕ) (op op2 : Operation ℕ) (fs gs : List (Frame ℕ)) → x ≡ Needs op fs → x ≡ Needs op2 gs → op ≡ op2
 needs_one x op op2 fs gs e f = cc (e, f)
 
 pub some_one : (a b : ℕ) → Some a ≡ Some b → a ≡ b
