@@ -1,21 +1,21 @@
 -- What the sites hold and do next is known: each reference names a cell of its kind.
-use Rattle.std.specs.Prelude.{List, None, Option, Some, [], length, option_map, refl, slice_get, ℕ, suc, zero, ◌+◌, ◌<◌, ◌∷◌, ◌≡◌, ◌≤◌}
-use Rattle.std.proofs.Common.{inl, inr, subst, ap, sym, ◌∙◌, arith}
+use Rattle.std.specs.Prelude.{List, None, Option, Some, [], length, refl, slice_get, ℕ, suc, zero, ◌+◌, ◌<◌, ◌∷◌, ◌≡◌}
+use Rattle.std.proofs.Common.{subst, ap, sym, ◌∙◌, arith}
 use Rattle.obq_model.specs.Terms.{LocKind, Term}
 use Rattle.obq_model.specs.Store.{Cell, Store}
-use Rattle.obq_model.specs.Config.{Running, ThreadState, Config, cell_at}
+use Rattle.obq_model.specs.Config.{Running, ThreadState, Config}
 use Rattle.obq_model.specs.Maps.{map_term, map_cell}
-use Rattle.obq_laws.specs.Known.{Places, Threads, HasKind, IsPlace, IsThread, location_kind, IsKnown, IsKnownCell, IsKnownOperation, IsKnownExecution, AreKnownCells, AreKnownThreads}
+use Rattle.obq_laws.specs.Known.{Places, Threads, HasKind, IsPlace, IsThread, IsKnown, IsKnownCell, IsKnownOperation, IsKnownExecution, AreKnownCells, AreKnownThreads}
 use Rattle.obq_laws.specs.Turns.{state_of}
 use Rattle.obq_laws.proofs.KnownReplay.{references_law, next_is_known}
-use Rattle.obq_stands.specs.World.{Ref, Born, Heap, Memory, Slot, World}
-use Rattle.obq_stands.specs.Stands.{Agrees, MemoryStands, around, Stands, StandsFor}
+use Rattle.obq_stands.specs.World.{Ref, Born, Memory, World}
+use Rattle.obq_stands.specs.Stands.{Agrees, MemoryStands, around}
 use Rattle.obq_stands.specs.Facts.{IsCellOf, NextKnown, CellKnown, WindowKnown}
 use Rattle.obq_model.proofs.Slices.{get_below}
 use Rattle.obq_stands.proofs.Memory.{born_or, reading, reading_agrees}
 use Rattle.obq_stands.proofs.Refs.{code}
 use Rattle.obq_stands.proofs.Moves.{out_running}
-use Rattle.obq_stands.proofs.Next.{NextIn, next_in}
+use Rattle.obq_stands.proofs.Next.{next_in}
 use Rattle.obq_stands.proofs.KnownBack.{Back, known_back, cell_back, operation_back, known_hole, map_location_kind}
 
 -- a number with a cell of this kind is one that is there

@@ -1,10 +1,9 @@
 -- What is known of terms in the store is known of them over references.
-use Rattle.std.specs.Prelude.{List, None, Option, Some, [], length, map, option_map, refl, slice_get, suc, ℕ, ◌<◌, ◌∷◌, ◌≡◌, ◌≤◌}
-use Rattle.std.proofs.Common.{inl, inr, subst, ap, sym, ◌∙◌, arith}
-use Rattle.obq_model.specs.Terms.{Bytes, LocKind, Object, Array, Variable, Writer, Condition, Engine, Value, Int, Truth, Okay, Text, Exc, Thread, Closure, Member, Loc, FieldBody, IsValue, IsMethod, IsAlias, Fields, Bare, Field, Kind, Read, Within, EachAt, EachIn, Cloning, Testing, Lined, Out, Term, Const, Name, Under, Form, Parts, End, Part}
-use Rattle.obq_model.specs.Depth.{deepest, deepest_of}
+use Rattle.std.specs.Prelude.{List, [], length, map, refl, suc, ◌∷◌, ◌≡◌, ◌≤◌}
+use Rattle.std.proofs.Common.{subst, ap, sym, ◌∙◌}
+use Rattle.obq_model.specs.Terms.{LocKind, Object, Array, Variable, Writer, Condition, Engine, Value, Int, Truth, Okay, Text, Exc, Thread, Closure, Member, Loc, FieldBody, IsValue, IsMethod, IsAlias, Fields, Bare, Field, Kind, Read, Within, EachAt, EachIn, Cloning, Testing, Lined, Out, Term, Const, Name, Under, Form, Parts, End, Part}
 use Rattle.obq_model.specs.Store.{Cell, ObjectCell, ArrayCell, VariableCell, WriterCell, ConditionCell, EngineCell}
-use Rattle.obq_model.specs.Step.{After, Itself, Entered, Offered, Operation, New, Get, CallMethod, Leave, Set, Copy, RedirectTo, GetItem, GetSize, EachSize, EachItem, SetItem, ReadVariable, SetVariable, Write, ForkOff, JoinWith, LineUp, GiveUp, Again, Signal, Broadcast, Export, Import, RunEngine, params_of, Frame, Pending, values_before, plug}
+use Rattle.obq_model.specs.Step.{After, Itself, Entered, Offered, Operation, New, Get, CallMethod, Leave, Set, Copy, RedirectTo, GetItem, GetSize, EachSize, EachItem, SetItem, ReadVariable, SetVariable, Write, ForkOff, JoinWith, LineUp, GiveUp, Again, Signal, Broadcast, Export, Import, RunEngine, Frame, Pending, values_before, plug}
 use Rattle.obq_model.specs.Maps.{map_value, map_body, map_fields, map_kind, map_term, map_parts, map_cell, map_after, map_operation}
 use Rattle.obq_model.proofs.Naturality.{map_deepest, map_deepest_of, map_params}
 use Rattle.obq_laws.specs.Known.{Places, Threads, AllObjects, IsKnown, AreKnown, IsKnownValue, IsKnownKind, AreKnownFields, IsKnownBody, AllKnown, IsKnownCell, location_kind, IsKnownAfter, HasOneParameter, IsKnownOperation}

@@ -1,26 +1,25 @@
 -- The operation that a thread does next, at whatever site, is what stands next in its term; so laws of replays hold of it.
 use Rattle.std.specs.Prelude.{List, None, Option, Some, [], false, length, max, option_map, refl, slice_get, suc, true, zero, ℕ, ◌+◌, ◌*◌, ◌<◌, ◌∷◌, ◌≡◌, ◌≤◌, ◌⊎◌}
 use Rattle.std.proofs.Common.{inl, inr, subst, ap, sym, ◌∙◌, arith}
-use Rattle.obq_base.specs.Tree.{BlockTree}
 use Rattle.obq_model.specs.Terms.{Term}
 use Rattle.obq_model.specs.Store.{same_loc}
-use Rattle.obq_model.specs.Step.{Self, no_self, Operation, New, Get, CallMethod, Leave, Set, Copy, RedirectTo, GetItem, GetSize, EachSize, EachItem, SetItem, ReadVariable, SetVariable, Write, ForkOff, JoinWith, LineUp, GiveUp, Again, Signal, Broadcast, Export, Import, RunEngine, Frame, Needs, find}
+use Rattle.obq_model.specs.Step.{no_self, Operation, New, Get, CallMethod, Leave, Set, Copy, RedirectTo, GetItem, GetSize, EachSize, EachItem, SetItem, ReadVariable, SetVariable, Write, ForkOff, JoinWith, LineUp, GiveUp, Again, Signal, Broadcast, Export, Import, RunEngine, Frame, Needs, find}
 use Rattle.obq_model.specs.Config.{Running, ThreadState, Config, cell_at}
 use Rattle.obq_model.specs.Effect.{line_of, in_line}
-use Rattle.obq_model.specs.Maps.{map_term, map_cell, map_operation}
+use Rattle.obq_model.specs.Maps.{map_cell, map_operation}
 use Rattle.obq_model.specs.OneCell.{owner_of}
 use Rattle.obq_model.proofs.NaturalCells.{map_line_of, map_owner_of}
 use Rattle.obq_model.proofs.Slices.{get_below}
 use Rattle.obq_laws.specs.Counts.{total_used, UsedAtMost, AreFew}
-use Rattle.obq_laws.specs.Lines.{count_in, lined_at, IsLinedAt}
+use Rattle.obq_laws.specs.Lines.{count_in, lined_at}
 use Rattle.obq_laws.specs.Locality.{needs_owner}
 use Rattle.obq_laws.specs.Turns.{state_of}
 use Rattle.obq_laws.proofs.Changes.{owner_at_act}
 use Rattle.obq_laws.proofs.Counts.{counts_law}
 use Rattle.obq_laws.proofs.Lines.{lines_law, one_line}
-use Rattle.obq_stands.specs.World.{Ref, same_ref, Born, Memory, Slot, Request, World, wire}
-use Rattle.obq_stands.specs.Stands.{Agrees, MemoryStands, Stands, StandsFor}
-use Rattle.obq_stands.specs.Facts.{IsNext, InSegment, InRequest, OwnerKnown, LineKnown, OneLineKnown, NotYetInLine, IsBounded, BoundsKnown}
+use Rattle.obq_stands.specs.World.{Ref, Born, Memory, Request, World, wire}
+use Rattle.obq_stands.specs.Stands.{Agrees, MemoryStands, Stands}
+use Rattle.obq_stands.specs.Facts.{IsNext, InSegment, InRequest, OwnerKnown, LineKnown, OneLineKnown, NotYetInLine, BoundsKnown}
 use Rattle.obq_stands.proofs.Memory.{reading, reading_agrees}
 use Rattle.obq_stands.proofs.Moves.{out_running, out_packet}
 use Rattle.obq_stands.proofs.Events.{found_op}

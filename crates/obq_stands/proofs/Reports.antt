@@ -1,16 +1,15 @@
 -- The output and the report of the configuration are those of the World.
-use Rattle.std.specs.Prelude.{Bool, List, None, Option, Some, [], false, if◌then◌else◌, length, map, nat_lt, refl, slice_get, suc, take, true, zero, ℕ, ◌++◌, ◌+◌, ◌<◌, ◌∷◌, ◌≡◌, ◌⊎◌}
+use Rattle.std.specs.Prelude.{List, Option, Some, [], length, map, refl, slice_get, suc, take, zero, ℕ, ◌+◌, ◌<◌, ◌∷◌, ◌≡◌}
 use Rattle.std.proofs.Common.{inl, inr, subst, ap, sym, ◌∙◌, arith}
 use Rattle.obq_base.specs.declared.acts.Report.{Report}
-use Rattle.obq_model.specs.Terms.{Bytes}
 use Rattle.obq_model.specs.Store.{Cell, ObjectCell, ArrayCell, VariableCell, WriterCell, ConditionCell, EngineCell}
 use Rattle.obq_model.specs.Cells.{written}
-use Rattle.obq_model.specs.Config.{Execution, Running, Returned, Failed, ThreadState, Config}
-use Rattle.obq_model.specs.Maps.{map_value, map_cell}
+use Rattle.obq_model.specs.Config.{Execution, Running, ThreadState, Config}
+use Rattle.obq_model.specs.Maps.{map_cell}
 use Rattle.obq_model.specs.Replay.{count_execution, report_of}
 use Rattle.obq_laws.specs.Turns.{state_of}
-use Rattle.obq_stands.specs.World.{Ref, Born, Memory, Packet, Request, Reply, thread_of, Ending, ByValue, ByException, World}
-use Rattle.obq_stands.specs.Stands.{Agrees, Place, Nowhere, Absent, At, InLine, WaitsAt, EndedAt, Fits, IsIn, Carries, Ended, StandsAt, Stands, ending_of}
+use Rattle.obq_stands.specs.World.{Ref, Born, Packet, Request, Reply, thread_of, Ending, ByValue, ByException, World}
+use Rattle.obq_stands.specs.Stands.{Agrees, Place, Nowhere, Absent, At, InLine, WaitsAt, EndedAt, Fits, IsIn, Carries, StandsAt, Stands, ending_of}
 use Rattle.obq_stands.specs.Facts.{OutputKnown, used_of, count_unended, count_place, report_from, IsAtPlace, ReportKnown}
 use Rattle.obq_stands.proofs.Memory.{reading, reading_agrees}
 

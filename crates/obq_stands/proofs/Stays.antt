@@ -1,5 +1,5 @@
 -- Cells stay where they are, with their numbers: so the writer of site k is cell k.
-use Rattle.std.specs.Prelude.{List, None, Option, Some, [], length, nat_lt, option_map, refl, slice_get, take, ℕ, ◌&&◌, ◌<◌, ◌≡◌, ◌⊎◌, if◌then◌else◌, true}
+use Rattle.std.specs.Prelude.{None, Option, Some, [], length, nat_lt, refl, ℕ, ◌&&◌, ◌<◌, ◌≡◌, ◌⊎◌, if◌then◌else◌, true}
 use Rattle.std.proofs.Common.{inl, inr, ap, sym, ◌∙◌, subst, arith}
 use Rattle.std.proofs.lemmas.Bool.Decides.{nat_tests}
 use Rattle.obq_base.specs.declared.acts.ActKind.{ActKind}
@@ -8,8 +8,7 @@ use Rattle.obq_model.specs.Step.{Self, Operation}
 use Rattle.obq_model.specs.Terms.{Term}
 use Rattle.obq_stands.specs.World.{Ref, same_ref, Born, Heap, Memory, with_ref, with_left, with_made, Packet, Ending, World}
 use Rattle.obq_stands.specs.Stands.{Does, OnCell, Makes, Retakes, Joins, Exports, Imports, TooMany}
-use Rattle.obq_stands.specs.Events.{writer_at, first_cell, world_at, Takes, OffLine, OffHold, Step, Steps, Acted, Forks, Finishes, Asks, Serves, Enters, Holds, Returns, Resumes}
-use Rattle.obq_stands.specs.Joined.{WatchStands, WatchStep}
+use Rattle.obq_stands.specs.Events.{writer_at, Takes, OffLine, OffHold, Step, Steps, Acted, Forks, Finishes, Asks, Serves, Enters, Holds, Returns, Resumes}
 use Rattle.obq_stands.specs.Facts.{CellsStay, HasWriters, WritersBegin, WritersKept, WatchWritersKept}
 use Rattle.obq_stands.proofs.Refs.{ref_or, ref_refl, with_ref_same, with_ref_other}
 use Rattle.obq_stands.proofs.Joined.{watch_step_is}
@@ -75,9 +74,12 @@ below_test : (k n : ℕ) → k < n → nat_lt k n ≡ true
 below_test k n l = grind (arith, nat_tests)
 
 pub writers_begin : WritersBegin
-writers_begin xs k l =
-    (record { born = k; cell = WriterCell [] }, ap (λ b. if b && same_ref (writer_at k) (writer_at k) then Some (record { born = k; cell = WriterCell [] }) else None) (below_test k (length xs) l)
-    ∙ ap (λ b. if b then Some (record { born = k; cell = WriterCell [] }) else None) (ref_refl (writer_at k)), refl)
+writers_begin xs k l = (
+  record { born = k; cell = WriterCell [] },
+  ap (λ b. if b && same_ref (writer_at k) (writer_at k) then Some (record { born = k; cell = WriterCell [] }) else None) (below_test k (length xs) l)
+      ∙ ap (λ b. if b then Some (record { born = k; cell = WriterCell [] }) else None) (ref_refl (writer_at k)),
+  refl,
+)
 
 pub watch_writers_kept : WatchWritersKept
 watch_writers_kept trees turns sites w x e e2 i h s = by (watch_step_is trees turns w x e e2 i s)

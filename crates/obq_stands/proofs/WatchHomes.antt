@@ -1,7 +1,6 @@
 -- Homes are kept by the events with watches too.
 use Rattle.std.specs.Prelude.{ℕ, refl, ◌<◌, ◌≡◌, ◌⊎◌}
 use Rattle.std.proofs.Common.{inl, inr, subst, sym}
-use Rattle.obq_stands.specs.World.{World}
 use Rattle.obq_stands.specs.Events.{Step}
 use Rattle.obq_stands.specs.Over.{AtHome}
 use Rattle.obq_stands.specs.Facts.{WatchHomesKept}

@@ -1,5 +1,5 @@
 -- What is known of cells, threads and turns in a World that stands for a replay: what the conditions of a site's act ask for.
-use Rattle.std.specs.Prelude.{List, None, Option, Some, [], false, if◌then◌else◌, length, max, nat_lt, slice_get, suc, true, zero, ℕ, ◌+◌, ◌*◌, ◌<◌, ◌∷◌, ◌≡◌, ◌≤◌, ◌⊎◌}
+use Rattle.std.specs.Prelude.{List, Some, false, if◌then◌else◌, length, max, nat_lt, slice_get, suc, true, zero, ℕ, ◌+◌, ◌*◌, ◌<◌, ◌≡◌, ◌≤◌, ◌⊎◌}
 use Rattle.obq_base.specs.declared.acts.Report.{Report}
 use Rattle.obq_base.specs.Tree.{BlockTree}
 use Rattle.obq_model.specs.Terms.{LocKind, Term}
@@ -12,7 +12,7 @@ use Rattle.obq_model.specs.Replay.{output, report}
 use Rattle.obq_laws.specs.Known.{location_kind, IsKnownCell, IsKnownOperation, IsKnown}
 use Rattle.obq_laws.specs.Lines.{count_in}
 use Rattle.obq_laws.specs.Locality.{needs_owner}
-use Rattle.obq_stands.specs.World.{Ref, same_ref, Born, Heap, Slot, Packet, Request, Reply, Ending, ByValue, ByException, World, wire}
+use Rattle.obq_stands.specs.World.{Ref, same_ref, Born, Heap, Slot, Packet, Request, Reply, ByValue, ByException, World, wire}
 use Rattle.obq_stands.specs.Stands.{Stands, StandsFor, Place, Nowhere, Absent, At, InLine, WaitsAt, EndedAt, HasPlace}
 use Rattle.obq_stands.specs.Events.{Step, Takes, writer_at, world_at}
 use Rattle.obq_stands.specs.Over.{AtHome}
