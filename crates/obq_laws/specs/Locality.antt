@@ -33,7 +33,7 @@ abbrev pub OwnersKept : Type 0
 OwnersKept = (turns : ℕ) (k k2 : Config) (e : Entry) → IsFormedConfig k → OwnersHold k.store k.threads → take_entry turns k e ≡ Some k2 → IsFormedConfig k2 × OwnersHold k2.store k2.threads
 
 -- the object whose mutex its thread has to own
-abbrev pub needs_owner : Operation ℕ → Option ℕ
+abbrev pub needs_owner : {R : Type 0} → Operation R → Option R
 needs_owner (Leave o out) = Some o
 needs_owner (LineUp o c guard) = Some o
 needs_owner (GiveUp o c guard) = Some o

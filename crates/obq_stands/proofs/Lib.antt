@@ -32,3 +32,9 @@ pub mod Turning
 pub mod Joined
 pub mod Rest
 pub mod Counts
+pub mod Stays
+pub mod Next
+pub mod Reports
+pub mod KnownBack
+pub mod Known
+pub mod WatchHomes

@@ -116,4 +116,3 @@ lines_up h f g h2 states states2 x pl t o q y here is later others aw after wd =
         let gone : pl u ≡ Nowhere = awake_owed h f g (states u) u (pl u) (subst (λ v. (a b : ℕ) → Sleeps (states v) a b → ⊥) (sym e) aw) (wd.owed u) in
         subst (Owed h2 (states2 u) u) (sym gone) tt
     by_owed u (inr ne) = owed u ne (pl u) (wd.owed u)
-

@@ -131,4 +131,3 @@ signal_away h f g h2 states states2 x pl t u us o q y here first is later others
     by now old v (inl e) =
         subst (λ w. Owed h2 (states2 w) w (with_at pl u (InLine q.site o.site (wake u o)) w)) (sym e) (subst (Owed h2 (states2 u) u) (sym (with_at_same pl u (InLine q.site o.site (wake u o)))) now)
     by now old v (inr ne) = subst (Owed h2 (states2 v) v) (sym (with_at_other pl u (InLine q.site o.site (wake u o)) v ne)) (old v (pl v) (wd.owed v))
-

@@ -52,7 +52,7 @@ term_in d (Some state) = elim state.execution [ Running u ↦ u | Returned v ↦
 pub running_one : (s : Option ThreadState) (u v : Term ℕ) (a b : ℕ) → s ≡ Some (record { execution = Running u; used = a }) → s ≡ Some (record { execution = Running v; used = b }) → u ≡ v
 running_one s u v a b e f = ap (term_in u) (sym e ∙ f)
 
-needs_one : (x : Found ℕ) (op op2 : Operation ℕ) (fs gs : List (Frame ℕ)) → x ≡ Needs op fs → x ≡ Needs op2 gs → op ≡ op2
+pub needs_one : (x : Found ℕ) (op op2 : Operation ℕ) (fs gs : List (Frame ℕ)) → x ≡ Needs op fs → x ≡ Needs op2 gs → op ≡ op2
 needs_one x op op2 fs gs e f = cc (e, f)
 
 pub some_one : (a b : ℕ) → Some a ≡ Some b → a ≡ b
@@ -140,4 +140,3 @@ out_sleeps u op gs used o q g e =
       found = find_plug same_loc 0 no_self gs (Form (Out o q) (Part g End)) (needs_frames same_loc 0 no_self u op gs e).0 tt ∙ lifted_asks gs (Again o q g) [];
       is = refl;
     }
-

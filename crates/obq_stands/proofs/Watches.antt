@@ -211,4 +211,3 @@ delivered h states x pl a b p ps wd first =
         (subst (Owed h (states t) t) (sym (with_at_same (with_at pl t Nowhere) t (WaitsAt b (record { from = 0; packet = p })))) (owed.0, ap (λ z. record { from = 0; packet = z }) owed.1, a, owed.2, owed.3))
     by t k owed u (inr ne) =
         subst (Owed h (states u) u) (sym (with_at_other (with_at pl t Nowhere) t (WaitsAt b (record { from = 0; packet = p })) u ne ∙ with_at_other pl t Nowhere u ne)) (wd.owed u)
-

@@ -1,8 +1,8 @@
 -- A World put together from its sites, and what the contract of a site's act says of that site alone.
-use Rattle.std.specs.Prelude.{Bool, List, Option, Some, None, false, ◌++◌, ◌∷◌, [], ℕ, suc, ◌+◌, ◌<◌, ◌≤◌, ◌≡◌, nat_le}
+use Rattle.std.specs.Prelude.{Bool, List, Option, Some, None, false, true, ◌++◌, ◌∷◌, [], ℕ, suc, ◌+◌, ◌<◌, ◌≤◌, ◌≡◌, nat_le}
 use Rattle.obq_base.specs.declared.acts.ActKind.{ActKind}
 use Rattle.obq_base.specs.declared.acts.Entry.{Entry}
-use Rattle.obq_base.specs.Tree.{BlockTree}
+use Rattle.obq_model.specs.Exceptions.{fork_limit}
 use Rattle.obq_model.specs.Terms.{Bytes, Value, Okay, Thread, Term, Const}
 use Rattle.obq_model.specs.Store.{Cell, exported, export}
 use Rattle.obq_model.specs.Step.{Self, After, Operation, New, ForkOff, JoinWith, Again, Export, Import, Frame, plug, Needs, find, self_at, activations_at}
@@ -12,10 +12,10 @@ use Rattle.obq_model.specs.Cells.{cell_row, again_row, import_row, after_new}
 use Rattle.obq_laws.specs.Determinism.{entry_of}
 use Rattle.obq_stands.specs.World.{thread_of, with_at, at2, PendingCall, Outcome, Gives, wire, answer_term, result_of, MayAsk, Request, Reply, Ref, same_ref, Born, Heap, with_ref, Slot, Suspended, Packet, Parked, Ending, ending_term, World, Idle, Ends}
 use Rattle.obq_stands.specs.World as result
-use Rattle.obq_stands.specs.Stands.{IsCall, StandsFor, after_steps}
+use Rattle.obq_stands.specs.Stands.{IsCall, after_steps}
 use Rattle.obq_stands.specs.Watch.{Watch}
-use Rattle.obq_stands.specs.Joined.{Beside, WatchStands}
-use Rattle.obq_stands.specs.Events.{with_window, moved, calling, answering, ends_as, IsOut}
+use Rattle.obq_stands.specs.Joined.{Beside, HasNoAct, WatchStep}
+use Rattle.obq_stands.specs.Events.{with_window, moved, calling, answering, ends_as, IsOut, Step}
 use Rattle.obq_model.specs.OneCell.{cell_of}
 use Rattle.obq_base.specs.declared.limits.TheConstants.{THREAD_LIMIT}
 
@@ -63,13 +63,20 @@ pub data Did (s : ℕ) (h : Heap) (count t : ℕ) (z : Self Ref) : Operation Ref
       → o.site ≡ s → c.site ≡ s → h o ≡ Some x → h c ≡ Some y → again_row Ends Idle t (in_line t (line_of (Some y.cell))) o c guard (Some x.cell) ≡ Ends kind left focus
       → Did s h count t z (Again o c guard) kind x.born (left_at h o x.born left) count focus
 
--- a commit with n pure steps and an act that site s did: the World of the changed site stands
+-- Each law below says that what one site did is an event of the World of all sites. So what every event keeps holds behind it: that the World stands for the
+-- replay of its journal, homes, counts, cells.
+
+-- an event in which no operation is done
+abbrev pub Quiet : ℕ → World → World → Type 0
+Quiet turns w x = (s : Step turns w x) × HasNoAct s
+
+-- a commit with n pure steps and an act that site s did
 abbrev pub SiteActs : Type 0
 SiteActs =
-    (trees : List BlockTree) (turns : ℕ) (sites : ℕ → Site) (rest : Rest) (s t n : ℕ) (slot : Slot) (u : Term Ref) (op : Operation Ref) (hs : List (Frame Ref)) (kind : ActKind) (loc : ℕ) (h : Heap) (count : ℕ) (x : Term Ref)
-    → StandsFor trees turns (assembled sites rest) → (sites s).running t ≡ Some slot → slot.used + n < turns → after_steps slot.segment.depth slot.segment.self n slot.segment.window ≡ Some u
+    (turns : ℕ) (sites : ℕ → Site) (rest : Rest) (s t n : ℕ) (slot : Slot) (u : Term Ref) (op : Operation Ref) (hs : List (Frame Ref)) (kind : ActKind) (loc : ℕ) (h : Heap) (count : ℕ) (x : Term Ref)
+    → (sites s).running t ≡ Some slot → slot.used + n < turns → after_steps slot.segment.depth slot.segment.self n slot.segment.window ≡ Some u
     → find same_ref slot.segment.depth slot.segment.self u ≡ Needs op hs → Did s (sites s).heap rest.count t (self_at slot.segment.self hs) op kind loc h count x
-    → StandsFor trees turns (assembled (with_at sites s (record (sites s) { heap = h; running = with_at (sites s).running t (Some (moved slot (n + 1) (plug hs x))) }))
+    → Step turns (assembled sites rest) (assembled (with_at sites s (record (sites s) { heap = h; running = with_at (sites s).running t (Some (moved slot (n + 1) (plug hs x))) }))
     (record rest { count = count; journal = rest.journal ++ entry_of t n (Some (act kind loc)) ∷ [] }))
 
 -- site s with another running segment of thread t, and so on
@@ -79,31 +86,38 @@ runs_at sites s t slot = record (sites s) { running = with_at (sites s).running 
 -- a commit with n pure steps
 abbrev pub SiteSteps : Type 0
 SiteSteps =
-    (trees : List BlockTree) (turns : ℕ) (sites : ℕ → Site) (rest : Rest) (s t n : ℕ) (slot : Slot) (u : Term Ref) → StandsFor trees turns (assembled sites rest) → (sites s).running t ≡ Some slot → slot.used + n ≤ turns
+    (turns : ℕ) (sites : ℕ → Site) (rest : Rest) (s t n : ℕ) (slot : Slot) (u : Term Ref) → (sites s).running t ≡ Some slot → slot.used + n ≤ turns
     → after_steps slot.segment.depth slot.segment.self n slot.segment.window ≡ Some u
-    → StandsFor trees turns (assembled (with_at sites s (runs_at sites s t (Some (moved slot n u)))) (record rest { journal = rest.journal ++ entry_of t n None ∷ [] }))
+    → Quiet turns (assembled sites rest) (assembled (with_at sites s (runs_at sites s t (Some (moved slot n u)))) (record rest { journal = rest.journal ++ entry_of t n None ∷ [] }))
 
 -- a commit with a join: the ending of thread v is kept at site b
 abbrev pub SiteJoins : Type 0
 SiteJoins =
-    (trees : List BlockTree) (turns : ℕ) (sites : ℕ → Site) (rest : Rest) (s t n v b : ℕ) (e : Ending) (slot : Slot) (u : Term Ref) (hs : List (Frame Ref)) → StandsFor trees turns (assembled sites rest) → (sites s).running t ≡ Some slot → slot.used + n < turns
+    (turns : ℕ) (sites : ℕ → Site) (rest : Rest) (s t n v b : ℕ) (e : Ending) (slot : Slot) (u : Term Ref) (hs : List (Frame Ref)) → (sites s).running t ≡ Some slot → slot.used + n < turns
     → after_steps slot.segment.depth slot.segment.self n slot.segment.window ≡ Some u → find same_ref slot.segment.depth slot.segment.self u ≡ Needs (JoinWith v) hs → (sites b).ended v ≡ Some e
-    → StandsFor trees turns (assembled (with_at sites s (runs_at sites s t (Some (moved slot (n + 1) (plug hs (ending_term e)))))) (record rest { journal = rest.journal ++ entry_of t n (Some (act ActKind.Join v)) ∷ [] }))
+    → Step turns (assembled sites rest) (assembled (with_at sites s (runs_at sites s t (Some (moved slot (n + 1) (plug hs (ending_term e)))))) (record rest { journal = rest.journal ++ entry_of t n (Some (act ActKind.Join v)) ∷ [] }))
 
 -- a commit with a fork: the thread begins at the same site
 abbrev pub SiteForks : Type 0
 SiteForks =
-    (trees : List BlockTree) (turns : ℕ) (sites : ℕ → Site) (rest : Rest) (s t n : ℕ) (slot : Slot) (u : Term Ref) (v : Value Ref) (hs : List (Frame Ref)) → StandsFor trees turns (assembled sites rest) → (sites s).running t ≡ Some slot → slot.used + n < turns
+    (turns : ℕ) (sites : ℕ → Site) (rest : Rest) (s t n : ℕ) (slot : Slot) (u : Term Ref) (v : Value Ref) (hs : List (Frame Ref)) → (sites s).running t ≡ Some slot → slot.used + n < turns
     → after_steps slot.segment.depth slot.segment.self n slot.segment.window ≡ Some u → find same_ref slot.segment.depth slot.segment.self u ≡ Needs (ForkOff v) hs → nat_le THREAD_LIMIT rest.threads ≡ false
-    → StandsFor trees turns (assembled (with_at sites s (record (sites s) { running = with_at (with_at (sites s).running t (Some (moved slot (n + 1) (plug hs (Const (Thread rest.threads)))))) rest.threads (Some (calling v)) }))
+    → Quiet turns (assembled sites rest) (assembled (with_at sites s (record (sites s) { running = with_at (with_at (sites s).running t (Some (moved slot (n + 1) (plug hs (Const (Thread rest.threads)))))) rest.threads (Some (calling v)) }))
     (record rest { threads = suc rest.threads; journal = rest.journal ++ entry_of t n (Some (act ActKind.Fork rest.threads)) ∷ [] }))
+
+-- a commit with a fork where there are as many threads as there may be: it raises an exception
+abbrev pub SiteForkRefused : Type 0
+SiteForkRefused =
+    (turns : ℕ) (sites : ℕ → Site) (rest : Rest) (s t n : ℕ) (slot : Slot) (u : Term Ref) (v : Value Ref) (hs : List (Frame Ref)) → (sites s).running t ≡ Some slot → slot.used + n < turns
+    → after_steps slot.segment.depth slot.segment.self n slot.segment.window ≡ Some u → find same_ref slot.segment.depth slot.segment.self u ≡ Needs (ForkOff v) hs → nat_le THREAD_LIMIT rest.threads ≡ true
+    → Step turns (assembled sites rest) (assembled (with_at sites s (runs_at sites s t (Some (moved slot (n + 1) (plug hs fork_limit))))) (record rest { journal = rest.journal ++ entry_of t n (Some (act ActKind.Fork THREAD_LIMIT)) ∷ [] }))
 
 -- a commit with the end of a thread, whose ending is kept at its site
 abbrev pub SiteEnds : Type 0
 SiteEnds =
-    (trees : List BlockTree) (turns : ℕ) (sites : ℕ → Site) (rest : Rest) (s t n : ℕ) (slot : Slot) (u : Term Ref) (e : Ending) → StandsFor trees turns (assembled sites rest) → (sites s).running t ≡ Some slot → slot.segment.answers ≡ None → slot.used + n < turns
+    (turns : ℕ) (sites : ℕ → Site) (rest : Rest) (s t n : ℕ) (slot : Slot) (u : Term Ref) (e : Ending) → (sites s).running t ≡ Some slot → slot.segment.answers ≡ None → slot.used + n < turns
     → after_steps slot.segment.depth slot.segment.self n slot.segment.window ≡ Some u → ends_as (find same_ref slot.segment.depth slot.segment.self u) ≡ Some e
-    → StandsFor trees turns (assembled (with_at sites s (record (sites s) { running = with_at (sites s).running t None; ended = with_at (sites s).ended t (Some e) })) (record rest { journal = rest.journal ++ entry_of t n (Some (act ActKind.End t)) ∷ [] }))
+    → Quiet turns (assembled sites rest) (assembled (with_at sites s (record (sites s) { running = with_at (sites s).running t None; ended = with_at (sites s).ended t (Some e) })) (record rest { journal = rest.journal ++ entry_of t n (Some (act ActKind.End t)) ∷ [] }))
 
 -- ---- at packets
 
@@ -113,62 +127,58 @@ posted lines a b p = at2 lines a b (lines a b ++ p ∷ [])
 -- the operation is abroad: the segment is suspended, and its request is posted
 abbrev pub SiteAsks : Type 0
 SiteAsks =
-    (trees : List BlockTree) (turns : ℕ) (sites : ℕ → Site) (rest : Rest) (s t to k : ℕ) (slot : Slot) (op : Operation Ref) (hs : List (Frame Ref)) → StandsFor trees turns (assembled sites rest) → (sites s).running t ≡ Some slot → slot.used < turns
+    (turns : ℕ) (sites : ℕ → Site) (rest : Rest) (s t to k : ℕ) (slot : Slot) (op : Operation Ref) (hs : List (Frame Ref)) → (sites s).running t ≡ Some slot → slot.used < turns
     → find same_ref slot.segment.depth slot.segment.self slot.segment.window ≡ Needs op hs → (sites s).pending k ≡ None
-    → StandsFor trees turns (assembled (with_at sites s (record (sites s) { running = with_at (sites s).running t None; pending = with_at (sites s).pending k (Some (record { thread = t; segment = slot.segment })) }))
+    → Quiet turns (assembled sites rest) (assembled (with_at sites s (record (sites s) { running = with_at (sites s).running t None; pending = with_at (sites s).pending k (Some (record { thread = t; segment = slot.segment })) }))
     (record rest { lines = posted rest.lines s to (Request t k slot.used (activations_at slot.segment.depth hs) (self_at slot.segment.self hs) (wire op)) }))
 
 -- the first packet of the line from a to b is a request that site b does, and whose reply is posted
 abbrev pub SiteServes : Type 0
 SiteServes =
-    (trees : List BlockTree) (turns : ℕ) (sites : ℕ → Site) (rest : Rest) (a b t k used depth : ℕ) (self : Self Ref) (op : Operation Ref) (ps : List Packet) (kind : ActKind) (loc : ℕ) (h : Heap) (count : ℕ) (x : Term Ref) (o : Outcome Ref)
-    → StandsFor trees turns (assembled sites rest) → rest.lines a b ≡ Request t k used depth self op ∷ ps → MayAsk op → Did b (sites b).heap rest.count t self op kind loc h count x → result_of x ≡ Gives o
-    → StandsFor trees turns (assembled (with_at sites b (record (sites b) { heap = h }))
+    (turns : ℕ) (sites : ℕ → Site) (rest : Rest) (a b t k used depth : ℕ) (self : Self Ref) (op : Operation Ref) (ps : List Packet) (kind : ActKind) (loc : ℕ) (h : Heap) (count : ℕ) (x : Term Ref) (o : Outcome Ref)
+    → rest.lines a b ≡ Request t k used depth self op ∷ ps → MayAsk op → Did b (sites b).heap rest.count t self op kind loc h count x → result_of x ≡ Gives o
+    → Step turns (assembled sites rest) (assembled (with_at sites b (record (sites b) { heap = h }))
     (record rest { count = count; lines = posted (at2 rest.lines a b ps) b a (Reply t k (used + 1) o); journal = rest.journal ++ entry_of t 0 (Some (act kind loc)) ∷ [] }))
 
 -- or in which an activation begins
 abbrev pub SiteEnters : Type 0
 SiteEnters =
-    (trees : List BlockTree) (turns : ℕ) (sites : ℕ → Site) (rest : Rest) (a b t k used depth : ℕ) (self : Self Ref) (op : Operation Ref) (ps : List Packet) (kind : ActKind) (loc : ℕ) (h : Heap) (count : ℕ) (x y : Term Ref)
-    → StandsFor trees turns (assembled sites rest) → rest.lines a b ≡ Request t k used depth self op ∷ ps → IsCall op → Did b (sites b).heap rest.count t self op kind loc h count x → result_of x ≡ result.Enters y
-    → StandsFor trees turns (assembled (with_at sites b (record (sites b) { heap = h; running = with_at (sites b).running t (Some (answering a k used depth self y)) }))
+    (turns : ℕ) (sites : ℕ → Site) (rest : Rest) (a b t k used depth : ℕ) (self : Self Ref) (op : Operation Ref) (ps : List Packet) (kind : ActKind) (loc : ℕ) (h : Heap) (count : ℕ) (x y : Term Ref)
+    → rest.lines a b ≡ Request t k used depth self op ∷ ps → IsCall op → Did b (sites b).heap rest.count t self op kind loc h count x → result_of x ≡ result.Enters y
+    → Step turns (assembled sites rest) (assembled (with_at sites b (record (sites b) { heap = h; running = with_at (sites b).running t (Some (answering a k used depth self y)) }))
     (record rest { count = count; lines = at2 rest.lines a b ps; journal = rest.journal ++ entry_of t 0 (Some (act kind loc)) ∷ [] }))
 
 -- a segment at its bottom answers
 abbrev pub SiteAnswers : Type 0
 SiteAnswers =
-    (trees : List BlockTree) (turns : ℕ) (sites : ℕ → Site) (rest : Rest) (s t : ℕ) (slot : Slot) (call : PendingCall) (o : Outcome Ref) → StandsFor trees turns (assembled sites rest) → (sites s).running t ≡ Some slot → slot.segment.answers ≡ Some call
-    → IsOut slot.segment.window o → StandsFor trees turns (assembled (with_at sites s (runs_at sites s t None)) (record rest { lines = posted rest.lines s call.site (Reply t call.number slot.used o) }))
+    (turns : ℕ) (sites : ℕ → Site) (rest : Rest) (s t : ℕ) (slot : Slot) (call : PendingCall) (o : Outcome Ref) → (sites s).running t ≡ Some slot → slot.segment.answers ≡ Some call
+    → IsOut slot.segment.window o → Quiet turns (assembled sites rest) (assembled (with_at sites s (runs_at sites s t None)) (record rest { lines = posted rest.lines s call.site (Reply t call.number slot.used o) }))
 
 -- the first packet of the line from a to b is a reply
 abbrev pub SiteResumes : Type 0
 SiteResumes =
-    (trees : List BlockTree) (turns : ℕ) (sites : ℕ → Site) (rest : Rest) (a b t k used : ℕ) (o : Outcome Ref) (ps : List Packet) (e : Suspended) (op : Operation Ref) (hs : List (Frame Ref)) → StandsFor trees turns (assembled sites rest)
-    → rest.lines a b ≡ Reply t k used o ∷ ps → (sites b).pending k ≡ Some e → find same_ref e.segment.depth e.segment.self e.segment.window ≡ Needs op hs
-    → StandsFor trees turns (assembled (with_at sites b (record (sites b) { running = with_at (sites b).running t (Some (record { segment = with_window e.segment (plug hs (answer_term op o)); used = used })); pending = with_at (sites b).pending k None }))
+    (turns : ℕ) (sites : ℕ → Site) (rest : Rest) (a b t k used : ℕ) (o : Outcome Ref) (ps : List Packet) (e : Suspended) (op : Operation Ref) (hs : List (Frame Ref)) → rest.lines a b ≡ Reply t k used o ∷ ps → (sites b).pending k ≡ Some e → find same_ref e.segment.depth e.segment.self e.segment.window ≡ Needs op hs
+    → Quiet turns (assembled sites rest) (assembled (with_at sites b (record (sites b) { running = with_at (sites b).running t (Some (record { segment = with_window e.segment (plug hs (answer_term op o)); used = used })); pending = with_at (sites b).pending k None }))
     (record rest { lines = at2 rest.lines a b ps }))
 
 -- the first packet of the line from a to b is a request that has to wait
 abbrev pub SiteHolds : Type 0
 SiteHolds =
-    (trees : List BlockTree) (turns : ℕ) (sites : ℕ → Site) (rest : Rest) (a b t k used depth : ℕ) (self : Self Ref) (op : Operation Ref) (ps : List Packet) → StandsFor trees turns (assembled sites rest)
-    → rest.lines a b ≡ Request t k used depth self op ∷ ps
-    → StandsFor trees turns (assembled (with_at sites b (record (sites b) { waiting = with_at (sites b).waiting t (Some (record { from = a; packet = Request t k used depth self op })) })) (record rest { lines = at2 rest.lines a b ps }))
+    (turns : ℕ) (sites : ℕ → Site) (rest : Rest) (a b t k used depth : ℕ) (self : Self Ref) (op : Operation Ref) (ps : List Packet) → rest.lines a b ≡ Request t k used depth self op ∷ ps
+    → Quiet turns (assembled sites rest) (assembled (with_at sites b (record (sites b) { waiting = with_at (sites b).waiting t (Some (record { from = a; packet = Request t k used depth self op })) })) (record rest { lines = at2 rest.lines a b ps }))
 
 -- a request that waited is done, and its reply is posted
 abbrev pub SiteRetries : Type 0
 SiteRetries =
-    (trees : List BlockTree) (turns : ℕ) (sites : ℕ → Site) (rest : Rest) (a b t k used depth : ℕ) (self : Self Ref) (op : Operation Ref) (kind : ActKind) (loc : ℕ) (h : Heap) (count : ℕ) (x : Term Ref) (o : Outcome Ref) → StandsFor trees turns (assembled sites rest)
-    → (sites b).waiting t ≡ Some (record { from = a; packet = Request t k used depth self op }) → MayAsk op → Did b (sites b).heap rest.count t self op kind loc h count x → result_of x ≡ Gives o
-    → StandsFor trees turns (assembled (with_at sites b (record (sites b) { heap = h; waiting = with_at (sites b).waiting t None }))
+    (turns : ℕ) (sites : ℕ → Site) (rest : Rest) (a b t k used depth : ℕ) (self : Self Ref) (op : Operation Ref) (kind : ActKind) (loc : ℕ) (h : Heap) (count : ℕ) (x : Term Ref) (o : Outcome Ref) → (sites b).waiting t ≡ Some (record { from = a; packet = Request t k used depth self op }) → MayAsk op → Did b (sites b).heap rest.count t self op kind loc h count x → result_of x ≡ Gives o
+    → Step turns (assembled sites rest) (assembled (with_at sites b (record (sites b) { heap = h; waiting = with_at (sites b).waiting t None }))
     (record rest { count = count; lines = posted rest.lines b a (Reply t k (used + 1) o); journal = rest.journal ++ entry_of t 0 (Some (act kind loc)) ∷ [] }))
 
 -- or an activation begins
 abbrev pub SiteRetriesEntering : Type 0
 SiteRetriesEntering =
-    (trees : List BlockTree) (turns : ℕ) (sites : ℕ → Site) (rest : Rest) (a b t k used depth : ℕ) (self : Self Ref) (op : Operation Ref) (kind : ActKind) (loc : ℕ) (h : Heap) (count : ℕ) (x y : Term Ref) → StandsFor trees turns (assembled sites rest)
-    → (sites b).waiting t ≡ Some (record { from = a; packet = Request t k used depth self op }) → IsCall op → Did b (sites b).heap rest.count t self op kind loc h count x → result_of x ≡ result.Enters y
-    → StandsFor trees turns (assembled (with_at sites b (record (sites b) { heap = h; running = with_at (sites b).running t (Some (answering a k used depth self y)); waiting = with_at (sites b).waiting t None }))
+    (turns : ℕ) (sites : ℕ → Site) (rest : Rest) (a b t k used depth : ℕ) (self : Self Ref) (op : Operation Ref) (kind : ActKind) (loc : ℕ) (h : Heap) (count : ℕ) (x y : Term Ref) → (sites b).waiting t ≡ Some (record { from = a; packet = Request t k used depth self op }) → IsCall op → Did b (sites b).heap rest.count t self op kind loc h count x → result_of x ≡ result.Enters y
+    → Step turns (assembled sites rest) (assembled (with_at sites b (record (sites b) { heap = h; running = with_at (sites b).running t (Some (answering a k used depth self y)); waiting = with_at (sites b).waiting t None }))
     (record rest { count = count; journal = rest.journal ++ entry_of t 0 (Some (act kind loc)) ∷ [] }))
 
 -- ---- endings and names
@@ -182,24 +192,23 @@ pub data Named (ended : ℕ → Option Ending) (names : List (Bytes × Value Ref
 -- a commit with such an act, done where it is asked for
 abbrev pub SiteNames : Type 0
 SiteNames =
-    (trees : List BlockTree) (turns : ℕ) (sites : ℕ → Site) (rest : Rest) (s t n : ℕ) (slot : Slot) (u : Term Ref) (op : Operation Ref) (hs : List (Frame Ref)) (kind : ActKind) (loc : ℕ) (names : List (Bytes × Value Ref)) (x : Term Ref)
-    → StandsFor trees turns (assembled sites rest) → (sites s).running t ≡ Some slot → slot.used + n < turns → after_steps slot.segment.depth slot.segment.self n slot.segment.window ≡ Some u
+    (turns : ℕ) (sites : ℕ → Site) (rest : Rest) (s t n : ℕ) (slot : Slot) (u : Term Ref) (op : Operation Ref) (hs : List (Frame Ref)) (kind : ActKind) (loc : ℕ) (names : List (Bytes × Value Ref)) (x : Term Ref)
+    → (sites s).running t ≡ Some slot → slot.used + n < turns → after_steps slot.segment.depth slot.segment.self n slot.segment.window ≡ Some u
     → find same_ref slot.segment.depth slot.segment.self u ≡ Needs op hs → Named (sites s).ended rest.names op kind loc names x
-    → StandsFor trees turns (assembled (with_at sites s (runs_at sites s t (Some (moved slot (n + 1) (plug hs x))))) (record rest { names = names; journal = rest.journal ++ entry_of t n (Some (act kind loc)) ∷ [] }))
+    → Step turns (assembled sites rest) (assembled (with_at sites s (runs_at sites s t (Some (moved slot (n + 1) (plug hs x))))) (record rest { names = names; journal = rest.journal ++ entry_of t n (Some (act kind loc)) ∷ [] }))
 
 -- the first packet of the line from a to b is a request for it, whose reply is posted: no site changes
 abbrev pub SiteServesNames : Type 0
 SiteServesNames =
-    (trees : List BlockTree) (turns : ℕ) (sites : ℕ → Site) (rest : Rest) (a b t k used depth : ℕ) (self : Self Ref) (op : Operation Ref) (ps : List Packet) (kind : ActKind) (loc : ℕ) (names : List (Bytes × Value Ref)) (x : Term Ref) (o : Outcome Ref)
-    → StandsFor trees turns (assembled sites rest) → rest.lines a b ≡ Request t k used depth self op ∷ ps → Named (sites b).ended rest.names op kind loc names x → result_of x ≡ Gives o
-    → StandsFor trees turns (assembled sites (record rest { names = names; lines = posted (at2 rest.lines a b ps) b a (Reply t k (used + 1) o); journal = rest.journal ++ entry_of t 0 (Some (act kind loc)) ∷ [] }))
+    (turns : ℕ) (sites : ℕ → Site) (rest : Rest) (a b t k used depth : ℕ) (self : Self Ref) (op : Operation Ref) (ps : List Packet) (kind : ActKind) (loc : ℕ) (names : List (Bytes × Value Ref)) (x : Term Ref) (o : Outcome Ref)
+    → rest.lines a b ≡ Request t k used depth self op ∷ ps → Named (sites b).ended rest.names op kind loc names x → result_of x ≡ Gives o
+    → Step turns (assembled sites rest) (assembled sites (record rest { names = names; lines = posted (at2 rest.lines a b ps) b a (Reply t k (used + 1) o); journal = rest.journal ++ entry_of t 0 (Some (act kind loc)) ∷ [] }))
 
 -- or one that waited
 abbrev pub SiteRetriesNames : Type 0
 SiteRetriesNames =
-    (trees : List BlockTree) (turns : ℕ) (sites : ℕ → Site) (rest : Rest) (a b t k used depth : ℕ) (self : Self Ref) (op : Operation Ref) (kind : ActKind) (loc : ℕ) (names : List (Bytes × Value Ref)) (x : Term Ref) (o : Outcome Ref) → StandsFor trees turns (assembled sites rest)
-    → (sites b).waiting t ≡ Some (record { from = a; packet = Request t k used depth self op }) → Named (sites b).ended rest.names op kind loc names x → result_of x ≡ Gives o
-    → StandsFor trees turns (assembled (with_at sites b (record (sites b) { waiting = with_at (sites b).waiting t None }))
+    (turns : ℕ) (sites : ℕ → Site) (rest : Rest) (a b t k used depth : ℕ) (self : Self Ref) (op : Operation Ref) (kind : ActKind) (loc : ℕ) (names : List (Bytes × Value Ref)) (x : Term Ref) (o : Outcome Ref) → (sites b).waiting t ≡ Some (record { from = a; packet = Request t k used depth self op }) → Named (sites b).ended rest.names op kind loc names x → result_of x ≡ Gives o
+    → Step turns (assembled sites rest) (assembled (with_at sites b (record (sites b) { waiting = with_at (sites b).waiting t None }))
     (record rest { names = names; lines = posted rest.lines b a (Reply t k (used + 1) o); journal = rest.journal ++ entry_of t 0 (Some (act kind loc)) ∷ [] }))
 
 -- ---- watches over two sites
@@ -215,32 +224,76 @@ watch_of ws wakes = record { wakes = wakes; noted = λ s t. (ws s).noted t; note
 -- a commit with an Again over two sites: the object's site looks at its object and at the noted wake
 abbrev pub SiteRetakes : Type 0
 SiteRetakes =
-    (trees : List BlockTree) (turns : ℕ) (sites : ℕ → Site) (ws : ℕ → WatchSite) (wakes : ℕ → ℕ → List Packet) (rest : Rest) (s t n : ℕ) (slot : Slot) (u : Term Ref) (o q : Ref) (guard : Term Ref) (hs : List (Frame Ref)) (x : Born) (kind : ActKind) (left : Option (Cell Ref)) (focus : Term Ref) (k : Parked)
-    → WatchStands trees turns (assembled sites rest) (watch_of ws wakes) → (sites s).running t ≡ Some slot → slot.used + n < turns → after_steps slot.segment.depth slot.segment.self n slot.segment.window ≡ Some u
+    (turns : ℕ) (sites : ℕ → Site) (ws : ℕ → WatchSite) (wakes : ℕ → ℕ → List Packet) (rest : Rest) (s t n : ℕ) (slot : Slot) (u : Term Ref) (o q : Ref) (guard : Term Ref) (hs : List (Frame Ref)) (x : Born) (kind : ActKind) (left : Option (Cell Ref)) (focus : Term Ref) (k : Parked)
+    → (sites s).running t ≡ Some slot → slot.used + n < turns → after_steps slot.segment.depth slot.segment.self n slot.segment.window ≡ Some u
     → find same_ref slot.segment.depth slot.segment.self u ≡ Needs (Again o q guard) hs → o.site ≡ s → (sites s).heap o ≡ Some x → (ws s).noted t ≡ Some k → again_row Ends Idle t false o q guard (Some x.cell) ≡ Ends kind left focus
-    → WatchStands trees turns
+    → WatchStep turns (assembled sites rest) (watch_of ws wakes)
     (assembled (with_at sites s (record (sites s) { heap = left_at (sites s).heap o x.born left; running = with_at (sites s).running t (Some (moved slot (n + 1) (plug hs focus))) })) (record rest { journal = rest.journal ++ entry_of t n (Some (act kind x.born)) ∷ [] }))
     (watch_of (with_at ws s (record (ws s) { noted = with_at (ws s).noted t None })) wakes)
 
 -- a wake arrives at its object's site
 abbrev pub SiteDelivers : Type 0
 SiteDelivers =
-    (trees : List BlockTree) (turns : ℕ) (sites : ℕ → Site) (ws : ℕ → WatchSite) (wakes : ℕ → ℕ → List Packet) (rest : Rest) (a b : ℕ) (p : Packet) (ps : List Packet) → WatchStands trees turns (assembled sites rest) (watch_of ws wakes) → wakes a b ≡ p ∷ ps
-    → WatchStands trees turns (assembled sites rest) (watch_of (with_at ws b (record (ws b) { noted = with_at (ws b).noted (thread_of p) (Some (record { from = 0; packet = p })) })) (at2 wakes a b ps))
+    (turns : ℕ) (sites : ℕ → Site) (ws : ℕ → WatchSite) (wakes : ℕ → ℕ → List Packet) (rest : Rest) (a b : ℕ) (p : Packet) (ps : List Packet) → wakes a b ≡ p ∷ ps
+    → WatchStep turns (assembled sites rest) (watch_of ws wakes) (assembled sites rest) (watch_of (with_at ws b (record (ws b) { noted = with_at (ws b).noted (thread_of p) (Some (record { from = 0; packet = p })) })) (at2 wakes a b ps))
 
 -- a commit with any other act that site s did, with what is noted or posted beside it
 abbrev pub SiteActsBeside : Type 0
 SiteActsBeside =
-    (trees : List BlockTree) (turns : ℕ) (sites : ℕ → Site) (e e2 : Watch) (rest : Rest) (s t n : ℕ) (slot : Slot) (u : Term Ref) (op : Operation Ref) (hs : List (Frame Ref)) (kind : ActKind) (loc : ℕ) (h : Heap) (count : ℕ) (x : Term Ref)
-    → WatchStands trees turns (assembled sites rest) e → (sites s).running t ≡ Some slot → slot.used + n < turns → after_steps slot.segment.depth slot.segment.self n slot.segment.window ≡ Some u
+    (turns : ℕ) (sites : ℕ → Site) (e e2 : Watch) (rest : Rest) (s t n : ℕ) (slot : Slot) (u : Term Ref) (op : Operation Ref) (hs : List (Frame Ref)) (kind : ActKind) (loc : ℕ) (h : Heap) (count : ℕ) (x : Term Ref)
+    → (sites s).running t ≡ Some slot → slot.used + n < turns → after_steps slot.segment.depth slot.segment.self n slot.segment.window ≡ Some u
     → find same_ref slot.segment.depth slot.segment.self u ≡ Needs op hs → Did s (sites s).heap rest.count t (self_at slot.segment.self hs) op kind loc h count x → Beside (assembled sites rest).memory.heap t op e e2
-    → WatchStands trees turns (assembled (with_at sites s (record (sites s) { heap = h; running = with_at (sites s).running t (Some (moved slot (n + 1) (plug hs x))) }))
+    → WatchStep turns (assembled sites rest) e (assembled (with_at sites s (record (sites s) { heap = h; running = with_at (sites s).running t (Some (moved slot (n + 1) (plug hs x))) }))
     (record rest { count = count; journal = rest.journal ++ entry_of t n (Some (act kind loc)) ∷ [] })) e2
 
 -- the same of the first request in the line from a to b, whose reply is posted
 abbrev pub SiteServesBeside : Type 0
 SiteServesBeside =
-    (trees : List BlockTree) (turns : ℕ) (sites : ℕ → Site) (e e2 : Watch) (rest : Rest) (a b t k used depth : ℕ) (self : Self Ref) (op : Operation Ref) (ps : List Packet) (kind : ActKind) (loc : ℕ) (h : Heap) (count : ℕ) (x : Term Ref) (o : Outcome Ref)
-    → WatchStands trees turns (assembled sites rest) e → rest.lines a b ≡ Request t k used depth self op ∷ ps → MayAsk op → Did b (sites b).heap rest.count t self op kind loc h count x → Beside (assembled sites rest).memory.heap t op e e2 → result_of x ≡ Gives o
-    → WatchStands trees turns (assembled (with_at sites b (record (sites b) { heap = h }))
+    (turns : ℕ) (sites : ℕ → Site) (e e2 : Watch) (rest : Rest) (a b t k used depth : ℕ) (self : Self Ref) (op : Operation Ref) (ps : List Packet) (kind : ActKind) (loc : ℕ) (h : Heap) (count : ℕ) (x : Term Ref) (o : Outcome Ref)
+    → rest.lines a b ≡ Request t k used depth self op ∷ ps → MayAsk op → Did b (sites b).heap rest.count t self op kind loc h count x → Beside (assembled sites rest).memory.heap t op e e2 → result_of x ≡ Gives o
+    → WatchStep turns (assembled sites rest) e (assembled (with_at sites b (record (sites b) { heap = h }))
     (record rest { count = count; lines = posted (at2 rest.lines a b ps) b a (Reply t k (used + 1) o); journal = rest.journal ++ entry_of t 0 (Some (act kind loc)) ∷ [] })) e2
+
+-- so a request by which an activation begins
+abbrev pub SiteEntersBeside : Type 0
+SiteEntersBeside =
+    (turns : ℕ) (sites : ℕ → Site) (e e2 : Watch) (rest : Rest) (a b t k used depth : ℕ) (self : Self Ref) (op : Operation Ref) (ps : List Packet) (kind : ActKind) (loc : ℕ) (h : Heap) (count : ℕ) (x y : Term Ref)
+    → rest.lines a b ≡ Request t k used depth self op ∷ ps → IsCall op → Did b (sites b).heap rest.count t self op kind loc h count x → Beside (assembled sites rest).memory.heap t op e e2 → result_of x ≡ result.Enters y
+    → WatchStep turns (assembled sites rest) e (assembled (with_at sites b (record (sites b) { heap = h; running = with_at (sites b).running t (Some (answering a k used depth self y)) }))
+    (record rest { count = count; lines = at2 rest.lines a b ps; journal = rest.journal ++ entry_of t 0 (Some (act kind loc)) ∷ [] })) e2
+
+-- and each of these of a request that waited
+abbrev pub SiteRetriesBeside : Type 0
+SiteRetriesBeside =
+    (turns : ℕ) (sites : ℕ → Site) (e e2 : Watch) (rest : Rest) (a b t k used depth : ℕ) (self : Self Ref) (op : Operation Ref) (kind : ActKind) (loc : ℕ) (h : Heap) (count : ℕ) (x : Term Ref) (o : Outcome Ref)
+    → (sites b).waiting t ≡ Some (record { from = a; packet = Request t k used depth self op }) → MayAsk op → Did b (sites b).heap rest.count t self op kind loc h count x → Beside (assembled sites rest).memory.heap t op e e2 → result_of x ≡ Gives o
+    → WatchStep turns (assembled sites rest) e (assembled (with_at sites b (record (sites b) { heap = h; waiting = with_at (sites b).waiting t None }))
+    (record rest { count = count; lines = posted rest.lines b a (Reply t k (used + 1) o); journal = rest.journal ++ entry_of t 0 (Some (act kind loc)) ∷ [] })) e2
+
+abbrev pub SiteRetriesEnteringBeside : Type 0
+SiteRetriesEnteringBeside =
+    (turns : ℕ) (sites : ℕ → Site) (e e2 : Watch) (rest : Rest) (a b t k used depth : ℕ) (self : Self Ref) (op : Operation Ref) (kind : ActKind) (loc : ℕ) (h : Heap) (count : ℕ) (x y : Term Ref)
+    → (sites b).waiting t ≡ Some (record { from = a; packet = Request t k used depth self op }) → IsCall op → Did b (sites b).heap rest.count t self op kind loc h count x → Beside (assembled sites rest).memory.heap t op e e2 → result_of x ≡ result.Enters y
+    → WatchStep turns (assembled sites rest) e (assembled (with_at sites b (record (sites b) { heap = h; running = with_at (sites b).running t (Some (answering a k used depth self y)); waiting = with_at (sites b).waiting t None }))
+    (record rest { count = count; journal = rest.journal ++ entry_of t 0 (Some (act kind loc)) ∷ [] })) e2
+
+-- an act beside which nothing is noted or posted, on an ending that is kept or on the exported names: at home, of a request, and of one that waited
+abbrev pub SiteNamesBeside : Type 0
+SiteNamesBeside =
+    (turns : ℕ) (sites : ℕ → Site) (watch : Watch) (rest : Rest) (s t n : ℕ) (slot : Slot) (u : Term Ref) (op : Operation Ref) (hs : List (Frame Ref)) (kind : ActKind) (loc : ℕ) (names : List (Bytes × Value Ref)) (x : Term Ref)
+    → (sites s).running t ≡ Some slot → slot.used + n < turns → after_steps slot.segment.depth slot.segment.self n slot.segment.window ≡ Some u
+    → find same_ref slot.segment.depth slot.segment.self u ≡ Needs op hs → Named (sites s).ended rest.names op kind loc names x
+    → WatchStep turns (assembled sites rest) watch (assembled (with_at sites s (runs_at sites s t (Some (moved slot (n + 1) (plug hs x))))) (record rest { names = names; journal = rest.journal ++ entry_of t n (Some (act kind loc)) ∷ [] })) watch
+
+abbrev pub SiteServesNamesBeside : Type 0
+SiteServesNamesBeside =
+    (turns : ℕ) (sites : ℕ → Site) (watch : Watch) (rest : Rest) (a b t k used depth : ℕ) (self : Self Ref) (op : Operation Ref) (ps : List Packet) (kind : ActKind) (loc : ℕ) (names : List (Bytes × Value Ref)) (x : Term Ref) (o : Outcome Ref)
+    → rest.lines a b ≡ Request t k used depth self op ∷ ps → Named (sites b).ended rest.names op kind loc names x → result_of x ≡ Gives o
+    → WatchStep turns (assembled sites rest) watch (assembled sites (record rest { names = names; lines = posted (at2 rest.lines a b ps) b a (Reply t k (used + 1) o); journal = rest.journal ++ entry_of t 0 (Some (act kind loc)) ∷ [] })) watch
+
+abbrev pub SiteRetriesNamesBeside : Type 0
+SiteRetriesNamesBeside =
+    (turns : ℕ) (sites : ℕ → Site) (watch : Watch) (rest : Rest) (a b t k used depth : ℕ) (self : Self Ref) (op : Operation Ref) (kind : ActKind) (loc : ℕ) (names : List (Bytes × Value Ref)) (x : Term Ref) (o : Outcome Ref)
+    → (sites b).waiting t ≡ Some (record { from = a; packet = Request t k used depth self op }) → Named (sites b).ended rest.names op kind loc names x → result_of x ≡ Gives o
+    → WatchStep turns (assembled sites rest) watch (assembled (with_at sites b (record (sites b) { waiting = with_at (sites b).waiting t None }))
+    (record rest { names = names; lines = posted rest.lines b a (Reply t k (used + 1) o); journal = rest.journal ++ entry_of t 0 (Some (act kind loc)) ∷ [] })) watch
