@@ -27,6 +27,7 @@ pub mod Homes
 pub mod Assembled
 pub mod WatchSites
 pub mod Example
+pub mod CallExample
 pub mod Broadcasts
 pub mod Turning
 pub mod Joined
