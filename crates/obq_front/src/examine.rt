@@ -7,7 +7,7 @@ ghost use Rattle.obq_front.specs.Refusals.{IfRefused, refused_at};
 
 use crate::gathered::Gathered;
 use crate::program::{FrontRefused, Program, Source};
-use crate::single::{Unaccepted};
+use crate::single::Unaccepted;
 use obq_base::limits::SOURCE_LIMIT;
 use std::alloc::Global;
 

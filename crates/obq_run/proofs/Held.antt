@@ -89,10 +89,12 @@ pub unread_at : (holds before : List ℕ → Option (List ℕ)) (limit : ℕ) (s
     → AreWithinLimit holds limit (paths_of (take i sites)) → ((n : List ℕ) → before n ≡ holds n) → ((n : List ℕ) → start n ≤ mid n)
     → MatchUnread why (Rose (mid (string_bytes site.path)) (now (string_bytes site.path))) (WhereTold (before (string_bytes site.path)) (λ xs. limit < length xs))
     → MatchUnread why (IsFaultAt holds limit (PathRose start now) (paths_of sites) i) (IsTooLongAt holds limit (paths_of sites) i)
-unread_at holds before limit start mid now sites i site Fault lt is within same later h =
-    (subst (AreWithinLimit holds limit) (sym (take-map (λ s. string_bytes s.path) i sites)) within,
-        at_site (PathRose start now) sites i site lt is (rose_since (start (string_bytes site.path)) (mid (string_bytes site.path)) (now (string_bytes site.path)) (later (string_bytes site.path)) h))
-unread_at holds before limit start mid now sites i site TooLong lt is within same later h =
-    (subst (AreWithinLimit holds limit) (sym (take-map (λ s. string_bytes s.path) i sites)) within,
-        at_site (λ p. WhereTold (holds p) (λ xs. limit < length xs)) sites i site lt is (subst (λ o. WhereTold o (λ xs. limit < length xs)) (same (string_bytes site.path)) h))
+unread_at holds before limit start mid now sites i site Fault lt is within same later h = (
+  subst (AreWithinLimit holds limit) (sym (take-map (λ s. string_bytes s.path) i sites)) within,
+  at_site (PathRose start now) sites i site lt is (rose_since (start (string_bytes site.path)) (mid (string_bytes site.path)) (now (string_bytes site.path)) (later (string_bytes site.path)) h),
+)
+unread_at holds before limit start mid now sites i site TooLong lt is within same later h = (
+  subst (AreWithinLimit holds limit) (sym (take-map (λ s. string_bytes s.path) i sites)) within,
+  at_site (λ p. WhereTold (holds p) (λ xs. limit < length xs)) sites i site lt is (subst (λ o. WhereTold o (λ xs. limit < length xs)) (same (string_bytes site.path)) h),
+)
 unread_at holds before limit start mid now sites i site NoMemory lt is within same later h = tt

@@ -9,7 +9,7 @@ ghost use Rattle.obq_run.specs.Held.{AreHeld, IsFaultAt, IsTooLongAt, PathRose};
 ghost use Rattle.obq_words.specs.Words.{names_of, paths_of};
 
 use obq_base::limits::SOURCE_LIMIT;
-use obq_front::{Source};
+use obq_front::Source;
 use obq_io::{Files, Unread, read_file};
 use obq_words::SiteWord;
 use std::alloc::Global;

@@ -3,7 +3,6 @@
 ghost use Rattle.std.specs.Prelude.{◌≡◌, ◌⊎◌, ◌<◌, ◌≤◌, ◌∷◌, [], IfErr, IfOk, List, length, ℕ};
 ghost use Rattle.std.specs.List.{zip};
 ghost use Rattle.std.specs.Io.KnownBytes.{Appends};
-
 ghost use Rattle.obq_base.specs.declared.trees.Block.{Block};
 ghost use Rattle.obq_io.specs.Causes.{Rose};
 ghost use Rattle.obq_io.specs.Known.{GetsPrefix};

@@ -1,6 +1,6 @@
 //! The slots in the code of a source. `fuel` bounds the depth, so that printing is seen to end.
 
-use crate::single::{examine_one};
+use crate::single::examine_one;
 use obq_base::limits::SOURCE_LIMIT;
 use obq_base::{CodeNo, Node, Slot, SourceCode};
 use std::alloc::{AllocError, Global};

@@ -2,7 +2,8 @@
 
 ghost use Rattle.std.specs.Prelude.{◌≤◌, IfOk, length};
 
-use crate::{SOURCE_LIMIT, Source, front};
+use crate::{Source, front};
+use obq_base::limits::SOURCE_LIMIT;
 use obq_base::{CodeNo, Name};
 use std::alloc::{AllocError, Global};
 use std::test::Fail;

@@ -24,7 +24,7 @@ returns-in-Err-clause-unread g c =
     let files = g.F.Files in
     let sites = c.args.sites.now in
     unread_at (files.holds c.args.files.now) (files.holds c.loop-i.files) SOURCE_LIMIT (files.faults c.args.files.now) (files.faults c.loop-i.files) (files.faults c.read_source.new.files) sites c.loop-i.i
-        c.index-sites-i.result c.in-Err.why (omega arith) c.index-sites-i.is c.loop-i.invariant.within c.loop-i.invariant.same c.loop-i.invariant.later c.in-Err.ensures.unread
+    c.index-sites-i.result c.in-Err.why (omega arith) c.index-sites-i.is c.loop-i.invariant.within c.loop-i.invariant.same c.loop-i.invariant.later c.in-Err.ensures.unread
 
 pub loop-i-preserved : goal.loop-i-preserved
 loop-i-preserved g c =
@@ -45,7 +45,7 @@ loop-i-preserved g c =
     let read : front.contents c.push.new.self.items ≡ front.contents items ++ source.bytes.items ∷ [] = ap front.contents more ∙ map-append (λ s. s.bytes.items) items (source ∷ []) in
     let held : (others : List (List ℕ)) → AreHeld holds SOURCE_LIMIT (paths_of (drop (i + 1) sites)) others → AreHeld holds SOURCE_LIMIT (paths_of sites) (front.contents c.push.new.self.items ++ others) =
     λ others h. subst (AreHeld holds SOURCE_LIMIT (paths_of sites)) (sym (ap (λ xs. xs ++ others) read ∙ append_assoc (front.contents items) (source.bytes.items ∷ []) others))
-        (c.loop-i.invariant.held (source.bytes.items ∷ others) (subst (λ ss. AreHeld holds SOURCE_LIMIT (paths_of ss) (source.bytes.items ∷ others)) (sym here) (is, c.in-Ok.ensures.bound, h))) in
+    (c.loop-i.invariant.held (source.bytes.items ∷ others) (subst (λ ss. AreHeld holds SOURCE_LIMIT (paths_of ss) (source.bytes.items ∷ others)) (sym here) (is, c.in-Ok.ensures.bound, h))) in
     let named : front.names_of c.push.new.self.items ≡ names_of (take (i + 1) sites) =
     ap front.names_of more ∙ (map-append (λ s. s.name) items (source ∷ []) ∙ (ap₂ (λ xs y. xs ++ y ∷ []) c.loop-i.invariant.named c.in-Ok.ensures.named ∙ sym (ap names_of next ∙ map-append (λ s. s.name) (take i sites) (site ∷ [])))) in
     record {
