@@ -1,22 +1,21 @@
 -- Every configuration that a journal of a program without an unbound name replays to is closed.
-use Rattle.std.specs.Prelude.{Bool, List, None, Option, Some, [], bytes_eq, false, length, max, not, refl, replicate, slice_get, slice_set, suc, true, zero, ℕ, ◌&&◌, ◌++◌, ◌∷◌, ◌≡◌, ◌||◌}
+use Rattle.std.specs.Prelude.{Bool, List, None, Option, Some, [], false, length, max, not, refl, replicate, slice_get, slice_set, suc, true, zero, ℕ, ◌&&◌, ◌++◌, ◌∷◌, ◌≡◌}
 use Rattle.std.proofs.Common.{subst, ap, sym, ◌∙◌, arith}
 use Rattle.std.proofs.lemmas.Slice.Eq.{bytes_eq-Decides}
 use Rattle.obq_base.specs.declared.acts.Act.{Act}
-use Rattle.obq_base.specs.declared.acts.Entry.{Entry}
 use Rattle.obq_base.specs.Tree.{BlockTree}
 use Rattle.obq_model.specs.Terms.{Bytes, Raised, Exn, ExitUp, Value, Closure, Member, Kind, Cloning, Term, Const, Name, Under, Form, Parts, End, Part}
 use Rattle.obq_model.specs.Put.{among}
 use Rattle.obq_model.specs.Depth.{deepest, deepest_of, depth_in}
 use Rattle.obq_model.specs.Reading.{occurs, occurs_in}
 use Rattle.obq_model.specs.Store.{WriterCell, same_loc}
-use Rattle.obq_model.specs.Step.{no_self, Frame, plug, Found, Next, Needs, Done, Uncaught, find, next_of, self_at}
+use Rattle.obq_model.specs.Step.{no_self, plug, Found, Next, Needs, Done, Uncaught, find, next_of, self_at}
 use Rattle.obq_model.specs.Shapes.{IsShaped}
 use Rattle.obq_model.specs.Forms.{IsSourceKind, IsSource, AreSource}
-use Rattle.obq_model.specs.Config.{Execution, Running, Returned, Failed, ThreadState, Config}
+use Rattle.obq_model.specs.Config.{Running, Returned, ThreadState, Config}
 use Rattle.obq_model.specs.Effect.{Acting, Forking, end_by}
 use Rattle.obq_model.specs.Opening.{block_term, opening_terms, new_threads, opening}
-use Rattle.obq_model.proofs.Among.{true_false, either, left_of, right_of}
+use Rattle.obq_model.proofs.Among.{true_false, left_of, right_of}
 use Rattle.obq_model.proofs.Closed.{closed, flat}
 use Rattle.obq_laws.specs.Closing.{Bound, no_name, within, IsClosed, AreClosed, IsClosedValue, IsClosedKind, AreClosedCells, IsClosedExecution, AreClosedThreads, IsClosedConfig, NoneUnbound, ClosedReplay, NoNameNext}
 use Rattle.obq_laws.specs.Shaping.{IsShapedConfig, IsShapedIf}
@@ -127,9 +126,10 @@ mutual
 
   bound_parts : {R : Type 0} (f : Bound) (parts : Parts R) → AreSource parts → deepest_of parts ≡ 0 → ((x : Bytes) → occurs_in x parts ≡ true → f x ≡ true) → AreClosed f parts
   bound_parts f End s d c = tt
-  bound_parts f (Part t parts) s d c =
-      (bound_term f t s.0 (left_zero (deepest t) (deepest_of parts) d) (λ x h. c x (left_of (occurs x t) (occurs_in x parts) h)),
-       bound_parts f parts s.1 (right_zero (deepest t) (deepest_of parts) d) (λ x h. c x (right_of (occurs x t) (occurs_in x parts) h)))
+  bound_parts f (Part t parts) s d c = (
+    bound_term f t s.0 (left_zero (deepest t) (deepest_of parts) d) (λ x h. c x (left_of (occurs x t) (occurs_in x parts) h)),
+    bound_parts f parts s.1 (right_zero (deepest t) (deepest_of parts) d) (λ x h. c x (right_of (occurs x t) (occurs_in x parts) h)),
+  )
 
 opening_threads : (site : ℕ) (bs : List BlockTree) → NoneUnbound bs → AreClosedThreads (new_threads (opening_terms site bs))
 opening_threads site [] n = tt

@@ -8,12 +8,12 @@ use Rattle.obq_base.specs.declared.trees.Flags.{Flags}
 use Rattle.obq_base.specs.declared.trees.Operator.{Operator}
 use Rattle.obq_model.specs.Terms.{Bytes, Object, Array, Variable, Writer, Condition, Engine, Raised, Exn, ExitUp, Mode, Plain, Held, Inner, Builtin, Not, Exception, FmtInt, FmtBool, TextLength, TextSub, ArrayNew, ArraySize, PutText, NewCondition, SignalOne, SignalAll, Fork, JoinThread, NetExport, NetImport, ExportEngine, ImportEngine, Layout, NoLayout, ValueField, MethodField, AliasField, Value, Int, Truth, Okay, Text, Exc, Thread, Closure, Member, Loc, FieldBody, IsValue, IsMethod, IsAlias, Fields, Kind, Empty, Then, Let, Var, LetRec, Group, Procedure, Assign, If, OrIf, AndIf, Operate, Call, Apply, MakeArray, Index, SetIndex, MakeObject, Select, Invoke, SetValue, SetMethod, SetAlias, Redirect, Clone, Raise, Exit, Loop, For, Foreach, Try, Finally, Watch, Read, Raising, Called, Within, Looping, Counting, EachAt, EachIn, Choosing, Unmet, Finishing, Cloning, Testing, Lined, Out, Term, Const, Name, Under, Form, Parts, End, Part}
 use Rattle.obq_model.specs.Put.{among, occurrence, put, put_parts, put_all, enter, put_members}
-use Rattle.obq_model.specs.Depth.{deepest, deepest_of, is_too_deep}
+use Rattle.obq_model.specs.Depth.{deepest_of, is_too_deep}
 use Rattle.obq_model.specs.Shapes.{pattern_of, IsShaped, AreShaped, IsShapedUnderOne, IsShapedValue, IsShapedKind}
 use Rattle.obq_model.specs.Exceptions.{raising, arity, int_overflow, text_limit, text_range, array_limit, field_twice, call_limit, closure_limit}
 use Rattle.obq_model.specs.Builtins.{is_i64, number, divided, same, compared, operate, part, arity_of_builtin}
 use Rattle.obq_model.specs.Store.{ObjectCell, ArrayCell, field_names, twice}
-use Rattle.obq_model.specs.Step.{Self, After, Itself, Entered, Offered, Operation, New, Leave, Copy, EachSize, SetItem, SetVariable, ForkOff, LineUp, GiveUp, Again, Export, CallMethod, Set, EachItem, RunEngine, is_operand, Frame, Pending, values_before, plug, self_in, activations_in, Found, Next, Needs, Done, Uncaught, part_at, names_of, params_of, body_with, is_call_limit, call_closure, with_one_parameter, call_engine, is_callable, call_value, field_before, fields_of, layout_names, new_object, make_object, object_before, objects, clone, array_of_size, fork_of, apply, counting, choose, out_of_method, chosen, tested, watching, cloned, row, out_of_loop, out_of_try, at_raised, through, find, find_part}
+use Rattle.obq_model.specs.Step.{Self, After, Itself, Entered, Operation, New, Leave, Copy, EachSize, SetItem, SetVariable, ForkOff, LineUp, GiveUp, Again, Export, CallMethod, Set, EachItem, RunEngine, is_operand, Frame, Pending, values_before, plug, self_in, activations_in, Found, Next, Needs, Done, Uncaught, part_at, names_of, params_of, body_with, is_call_limit, call_closure, with_one_parameter, call_engine, is_callable, call_value, field_before, fields_of, layout_names, new_object, objects, clone, array_of_size, fork_of, apply, counting, choose, out_of_method, chosen, tested, watching, cloned, row, out_of_loop, out_of_try, at_raised, through, find, find_part}
 use Rattle.obq_model.proofs.Among.{true_false, bytes_sym, either, left_of, right_of}
 use Rattle.obq_laws.specs.Closing.{Bound, no_name, within, IsClosed, AreClosed, IsClosedValue, IsClosedKind, AreClosedFields, IsClosedField, AllClosed, IsClosedCell}
 use Rattle.obq_laws.specs.Known.{HasOneParameter}

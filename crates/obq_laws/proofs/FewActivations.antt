@@ -1,5 +1,5 @@
 -- No thread of a replay has more than 1,000 activations.
-use Rattle.std.specs.Prelude.{Bool, List, None, Option, Some, [], drop, false, if◌then◌else◌, length, nat_le, nat_lt, negsuc, not, pos, refl, slice_get, slice_set, suc, true, unwrap_or, zero, ℕ, ℤ, ◌++◌, ◌+◌, ◌==◌, ◌∷◌, ◌≡◌, ◌≤◌, ◌||◌, ◌⊎◌}
+use Rattle.std.specs.Prelude.{Bool, List, None, Option, Some, [], drop, false, if◌then◌else◌, length, nat_le, nat_lt, negsuc, not, pos, refl, slice_get, slice_set, suc, true, unwrap_or, zero, ℕ, ℤ, ◌++◌, ◌+◌, ◌==◌, ◌<◌, ◌∷◌, ◌≡◌, ◌≤◌, ◌||◌, ◌⊎◌}
 use Rattle.std.proofs.Common.{inl, inr, subst, ap, sym, ◌∙◌, arith}
 use Rattle.obq_base.specs.declared.limits.TheConstants.{THREAD_LIMIT}
 use Rattle.obq_base.specs.declared.acts.ActKind.{ActKind}
@@ -278,7 +278,7 @@ act_few n op fs focus h s l (inr q) =
     let whole : activations_of (plug fs focus) ≡ activations_at 0 fs + activations_of focus = acts_plug no_self fs focus s in
     let count : 0 + n ≡ activations_at 0 fs + left_by op = h.0 in
     let one : activations_of focus ≡ 1 = q.0 in
-    let room : 0 + n ≤ 999 = h.1 q.1 in omega arith
+    let room : 0 + n < 1000 = h.1 q.1 in omega arith
 
 abbrev IsFewWell : Config → Type 0
 IsFewWell k = IsFormedConfig k × AreFewThreads k.threads

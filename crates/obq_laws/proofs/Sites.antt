@@ -7,12 +7,11 @@ use Rattle.obq_base.specs.declared.acts.Entry.{Entry}
 use Rattle.obq_base.specs.Tree.{BlockTree}
 use Rattle.obq_model.specs.Terms.{Raised, Exn, ExitUp, Term}
 use Rattle.obq_model.specs.Store.{Cell, WriterCell, Store, same_loc}
-use Rattle.obq_model.specs.Step.{no_self, Operation, Leave, Frame, plug, Needs, Done, Uncaught, find, self_at, activations_at}
-use Rattle.obq_model.specs.Forms.{IsFormed}
-use Rattle.obq_model.specs.Config.{Execution, Running, Returned, Failed, ThreadState, Config, with_execution}
-use Rattle.obq_model.specs.Effect.{Acting, Forking, perform, end_by}
-use Rattle.obq_model.specs.Located.{Located, activations_of, site_here, Trail, turned, after_steps, site_at, place_in, execution_activations, thread_activations, with_more, after_act, after_entry, locate_execution, locate_entry, locate_from, with_waiting, first_sites, located_opening, located_run, located_replay}
-use Rattle.obq_model.specs.Opening.{block_term, opening_terms, new_threads, opening}
+use Rattle.obq_model.specs.Step.{no_self, Operation, Leave, Frame, plug, Needs, find, self_at, activations_at}
+use Rattle.obq_model.specs.Config.{Running, Returned, ThreadState, Config, with_execution}
+use Rattle.obq_model.specs.Effect.{Acting, Forking, end_by}
+use Rattle.obq_model.specs.Located.{Located, activations_of, site_here, Trail, turned, after_steps, site_at, place_in, execution_activations, thread_activations, with_more, after_act, after_entry, locate_execution, locate_from, with_waiting, first_sites, located_opening, located_run}
+use Rattle.obq_model.specs.Opening.{block_term, opening_terms, new_threads}
 use Rattle.obq_model.specs.Replay.{after_pure, with_turns, take_of, take_entry}
 use Rattle.obq_model.proofs.Slices.{get_below, set_same, set_length, set_set, push_other, push_length}
 use Rattle.obq_laws.specs.Activations.{left_by, may_enter, Activated}
@@ -20,7 +19,7 @@ use Rattle.obq_laws.specs.Determinism.{entry_of}
 use Rattle.obq_laws.specs.Keeping.{IsFormedConfig, IsFormedIf}
 use Rattle.obq_laws.specs.Locality.{IsLocalStore, SameStore, OneCell, OneName, OneMore}
 use Rattle.obq_laws.specs.Trails.{TrailsFit, SitesHold, SitesLaw}
-use Rattle.obq_laws.specs.Turns.{state_of, changed, CanGo, Turn, Steps, Acts, Forks, Ends, Raises, Turns, NoTurn, TheAct}
+use Rattle.obq_laws.specs.Turns.{state_of, changed, Turn, Steps, Acts, Forks, Ends, Raises, Turns, NoTurn, TheAct}
 use Rattle.obq_laws.proofs.Activated.{source_none}
 use Rattle.obq_laws.proofs.Changes.{LocalOutcome, local_perform}
 use Rattle.obq_laws.proofs.Determinism.{cut_entry}
@@ -28,7 +27,6 @@ use Rattle.obq_laws.proofs.FewActivations.{FewAt, FewOutcome, few_perform, acts_
 use Rattle.obq_laws.proofs.Formed.{GoodThreadState, good_state, entry_formed, opening_of_formed}
 use Rattle.obq_laws.proofs.LocatedReplay.{thread_from, entry_from, rest_from, located_is}
 use Rattle.obq_laws.proofs.Methods.{AreSourceFrames}
-use Rattle.obq_laws.proofs.OwnerLaw.{eq_refl}
 use Rattle.obq_laws.proofs.Opened.{source_block}
 use Rattle.obq_laws.proofs.Trails.{ByOne, turned_trail, step_by_one, steps_trail}
 use Rattle.obq_laws.proofs.Turns.{turns_counted, from_here, turn_by_turn}
@@ -167,10 +165,11 @@ act_sites l t m v old tr there _ here h e (Goes s st local by) =
     let n2 : thread_activations k2 t ≡ execution_activations s.execution = acts_at k2 t s there2 in
     let one : ByOne (activations_of v) (thread_activations k2 t) = to_by_one (activations_of v) (thread_activations k1 t) (thread_activations k2 t) (execution_activations s.execution) (sym (acts_at k1 t (state_of (Running v) m) there1)) n2 by in
     let tr2 : Trail = turned there (activations_of v) (thread_activations k2 t) tr in
-    let fits : length tr2.0 ≡ suc (execution_activations s.execution) = turned_trail there (activations_of v) (thread_activations k2 t) tr e one ∙ ap suc n2 in
-    (sites_more (length l.config.store.cells) (length st.cells) (site_here tr.0) l.cell_sites h.0 (cells_by l.config.store st local),
-     subst (λ (xs : List (List ℕ)). TrailsFit xs (slice_set ts t s)) (sym (as_many (length l.config.threads) (length (slice_set ts t s)) (site_here tr.0 ∷ []) (slice_set l.thread_sites t tr2.0) (set_length ts t s ∙ long)))
-     (subst (TrailsFit (slice_set l.thread_sites t tr2.0)) (sym (set_set l.config.threads t (state_of (Running v) m) s)) (fit_set l.thread_sites l.config.threads t tr2.0 s h.1 fits)))
+    let fits : length tr2.0 ≡ suc (execution_activations s.execution) = turned_trail there (activations_of v) (thread_activations k2 t) tr e one ∙ ap suc n2 in (
+      sites_more (length l.config.store.cells) (length st.cells) (site_here tr.0) l.cell_sites h.0 (cells_by l.config.store st local),
+      subst (λ (xs : List (List ℕ)). TrailsFit xs (slice_set ts t s)) (sym (as_many (length l.config.threads) (length (slice_set ts t s)) (site_here tr.0 ∷ []) (slice_set l.thread_sites t tr2.0) (set_length ts t s ∙ long)))
+          (subst (TrailsFit (slice_set l.thread_sites t tr2.0)) (sym (set_set l.config.threads t (state_of (Running v) m) s)) (fit_set l.thread_sites l.config.threads t tr2.0 s h.1 fits)),
+    )
 act_sites l t m v old tr there _ here h e (Begins s new by none) =
     let ts : List ThreadState = slice_set l.config.threads t (state_of (Running v) m) in
     let k1 : Config = changed l.config t (Running v) m l.config.store in
@@ -184,11 +183,12 @@ act_sites l t m v old tr there _ here h e (Begins s new by none) =
     let n2 : thread_activations k2 t ≡ execution_activations s.execution = acts_at k2 t s there2 in
     let one : ByOne (activations_of v) (thread_activations k2 t) = to_by_one (activations_of v) (thread_activations k1 t) (thread_activations k2 t) (execution_activations s.execution) (sym (acts_at k1 t (state_of (Running v) m) there1)) n2 by in
     let tr2 : Trail = turned there (activations_of v) (thread_activations k2 t) tr in
-    let fits : length tr2.0 ≡ suc (execution_activations s.execution) = turned_trail there (activations_of v) (thread_activations k2 t) tr e one ∙ ap suc n2 in
-    (sites_more (length l.config.store.cells) (length l.config.store.cells) (site_here tr.0) l.cell_sites h.0 (inl refl),
-     subst (λ (xs : List (List ℕ)). TrailsFit xs (ts2 ++ new ∷ [])) (sym (one_more (length l.config.threads) (length (ts2 ++ new ∷ [])) (site_here tr.0 ∷ []) (slice_set l.thread_sites t tr2.0) (push_length ts2 new ∙ ap suc long2)))
-     (fit_more (slice_set l.thread_sites t tr2.0) ts2 (site_here tr.0 ∷ []) new
-     (subst (TrailsFit (slice_set l.thread_sites t tr2.0)) (sym (set_set l.config.threads t (state_of (Running v) m) s)) (fit_set l.thread_sites l.config.threads t tr2.0 s h.1 fits)) (sym (ap suc none))))
+    let fits : length tr2.0 ≡ suc (execution_activations s.execution) = turned_trail there (activations_of v) (thread_activations k2 t) tr e one ∙ ap suc n2 in (
+      sites_more (length l.config.store.cells) (length l.config.store.cells) (site_here tr.0) l.cell_sites h.0 (inl refl),
+      subst (λ (xs : List (List ℕ)). TrailsFit xs (ts2 ++ new ∷ [])) (sym (one_more (length l.config.threads) (length (ts2 ++ new ∷ [])) (site_here tr.0 ∷ []) (slice_set l.thread_sites t tr2.0) (push_length ts2 new ∙ ap suc long2)))
+          (fit_more (slice_set l.thread_sites t tr2.0) ts2 (site_here tr.0 ∷ []) new
+          (subst (TrailsFit (slice_set l.thread_sites t tr2.0)) (sym (set_set l.config.threads t (state_of (Running v) m) s)) (fit_set l.thread_sites l.config.threads t tr2.0 s h.1 fits)) (sym (ap suc none))),
+    )
   where
     other : (t n m : ℕ) → t < m → n ≡ m → t ≡ n → ⊥
     other t n m l e q = absurd (omega arith)

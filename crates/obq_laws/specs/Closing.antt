@@ -1,5 +1,5 @@
 -- Closed terms: each name in them is bound in them.
-use Rattle.std.specs.Prelude.{Bool, List, Option, Some, [], false, slice_get, true, ℕ, ◌∷◌, ◌≡◌, ◌||◌}
+use Rattle.std.specs.Prelude.{Bool, List, Some, [], false, slice_get, true, ℕ, ◌∷◌, ◌≡◌, ◌||◌}
 use Rattle.obq_base.specs.declared.acts.Entry.{Entry}
 use Rattle.obq_base.specs.Tree.{BlockTree}
 use Rattle.obq_model.specs.Terms.{Bytes, Value, Closure, Member, FieldBody, IsValue, IsMethod, IsAlias, Fields, Bare, Field, Kind, Cloning, Term, Const, Name, Under, Form, Parts, End, Part}
