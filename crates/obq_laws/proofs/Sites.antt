@@ -196,13 +196,13 @@ act_sites l t m v old tr there _ here h e (Begins s new by none) =
 -- ---- entries
 
 -- behind the pure steps of an entry
-abbrev Stepped : ℕ → Config → ℕ → ℕ → Term ℕ → Config → Type 0
-Stepped turns k t n u k1 = (v : Term ℕ) × (m : ℕ) × (after_pure n u ≡ Some v) × (changed k t (Running v) m k.store ≡ k1)
+abbrev Stepped : Config → ℕ → ℕ → Term ℕ → Config → Type 0
+Stepped k t n u k1 = (v : Term ℕ) × (m : ℕ) × (after_pure n u ≡ Some v) × (changed k t (Running v) m k.store ≡ k1)
 
-stepped : (turns : ℕ) (k k1 : Config) (t n used : ℕ) (u : Term ℕ) → slice_get k.threads t ≡ Some (state_of (Running u) used) → take_of k (entry_of t n None) (after_pure n u) ≡ Some k1 → Stepped turns k t n u k1
-stepped turns k k1 t n used u here r = by (after_pure n u) refl r
+stepped : (k k1 : Config) (t n used : ℕ) (u : Term ℕ) → slice_get k.threads t ≡ Some (state_of (Running u) used) → take_of k (entry_of t n None) (after_pure n u) ≡ Some k1 → Stepped k t n u k1
+stepped k k1 t n used u here r = by (after_pure n u) refl r
   where
-    by : (o : Option (Term ℕ)) → after_pure n u ≡ o → take_of k (entry_of t n None) o ≡ Some k1 → Stepped turns k t n u k1
+    by : (o : Option (Term ℕ)) → after_pure n u ≡ o → take_of k (entry_of t n None) o ≡ Some k1 → Stepped k t n u k1
     by None q e = absurd (cc e)
     by (Some v) q e =
         let same : with_turns t n (with_execution k t (Running v)) ≡ k1 = cc e in
@@ -232,7 +232,7 @@ entry_holds : (sites turns : ℕ) (l : Located) (k2 : Config) (e : Entry) (state
 entry_holds sites turns l k2 e state c h taken there =
     by (take_entry turns l.config (entry_of e.thread e.pure None)) refl (sym (ap (λ m. take_entry turns l.config (entry_of e.thread m e.act)) (plus_zero e.pure) ∙ cut_entry turns l.config e.thread e.pure 0 e.act) ∙ taken)
   where
-    from : (k1 : Config) (u : Term ℕ) (used : ℕ) → take_entry turns l.config (entry_of e.thread e.pure None) ≡ Some k1 → take_entry turns k1 (entry_of e.thread 0 e.act) ≡ Some k2 → slice_get l.config.threads e.thread ≡ Some (state_of (Running u) used) → Stepped turns l.config e.thread e.pure u k1
+    from : (k1 : Config) (u : Term ℕ) (used : ℕ) → take_entry turns l.config (entry_of e.thread e.pure None) ≡ Some k1 → take_entry turns k1 (entry_of e.thread 0 e.act) ≡ Some k2 → slice_get l.config.threads e.thread ≡ Some (state_of (Running u) used) → Stepped l.config e.thread e.pure u k1
         → SitesHold (locate_execution sites l k2 e state.execution)
     from k1 u used q r here (v, m, s, same) =
         let running : state_of (Running u) used ≡ state = cc (sym here ∙ there) in
@@ -245,7 +245,7 @@ entry_holds sites turns l k2 e state c h taken there =
     by None q r = absurd (cc r)
     by (Some k1) q r =
         let f = from_here turns l.config k1 (entry_of e.thread e.pure None) q in
-        from k1 f.0 f.1 q r f.2 (stepped turns l.config k1 e.thread e.pure f.1 f.0 f.2 f.4)
+        from k1 f.0 f.1 q r f.2 (stepped l.config k1 e.thread e.pure f.1 f.0 f.2 f.4)
 
 -- ---- the fold
 
