@@ -1,5 +1,5 @@
 -- How many activations a term has, and how many are around its focus.
-use Rattle.std.specs.Prelude.{Bool, List, None, Option, Some, T, [], bytes_eq, drop, false, if◌then◌else◌, int_div, int_lt, int_rem, length, nat_lt, negsuc, not, pos, refl, replicate, suc, take, true, zero, ℕ, ℤ, ◌*ℤ◌, ◌++◌, ◌+ℤ◌, ◌+◌, ◌-ℤ◌, ◌==◌, ◌∷◌, ◌≡◌, ◌≤◌, ◌⊎◌}
+use Rattle.std.specs.Prelude.{Bool, List, None, Option, Some, T, [], bytes_eq, drop, false, if◌then◌else◌, int_div, int_lt, int_rem, length, nat_lt, negsuc, not, pos, refl, replicate, suc, take, true, zero, ℕ, ℤ, ◌*ℤ◌, ◌++◌, ◌+ℤ◌, ◌+◌, ◌-ℤ◌, ◌==◌, ◌<◌, ◌∷◌, ◌≡◌, ◌≤◌, ◌⊎◌}
 use Rattle.std.proofs.Common.{inl, inr, subst, ap, sym, ◌∙◌, arith, length-append}
 use Rattle.std.proofs.lemmas.Bool.Decides.{nat_tests}
 use Rattle.obq_base.specs.declared.limits.TheConstants.{ARRAY_LIMIT, CLOSURE_LIMIT, TEXT_LIMIT}
@@ -44,8 +44,8 @@ true_false e = subst T e tt
 
 -- what a row gives: no activation, or one where there is room; an act's form that leaves none
 abbrev Here : {R : Type 0} → ℕ → Found R → Type 0
-Here a (Next u) = (activations_of u ≡ 0) ⊎ ((activations_of u ≡ 1) × (a ≤ 999))
-Here a (Needs op fs) = (fs ≡ []) × (left_by op ≡ 0) × (may_enter op ≡ true → a ≤ 999)
+Here a (Next u) = (activations_of u ≡ 0) ⊎ ((activations_of u ≡ 1) × (a < 1000))
+Here a (Needs op fs) = (fs ≡ []) × (left_by op ≡ 0) × (may_enter op ≡ true → a < 1000)
 Here a (Done v) = ⊥
 Here a (Uncaught r) = Unit {0}
 
@@ -64,18 +64,18 @@ term_if a false t u h i = i
 never : {P : Type 0} → false ≡ true → P
 never e = absurd (true_false (sym e))
 
-room : (a : ℕ) → is_call_limit a ≡ false → a ≤ 999
+room : (a : ℕ) → is_call_limit a ≡ false → a < 1000
 room a h = grind (arith, nat_tests)
 
-here_closure : {R : Type 0} (a : ℕ) (f : Value R) (vs : List (Value R)) (o : Option (List Bytes)) → a ≤ 999 → IsSourceValue f → AllSource vs → Here a (call_closure f vs o)
+here_closure : {R : Type 0} (a : ℕ) (f : Value R) (vs : List (Value R)) (o : Option (List Bytes)) → a < 1000 → IsSourceValue f → AllSource vs → Here a (call_closure f vs o)
 here_closure a f vs None l h k = inl refl
 here_closure a f vs (Some params) l h k = here_if a (length params == length vs) (Next (Form Called (Part (body_with f vs) End))) (Next arity) (inr (ap suc (sources_none (Part (body_with f vs) End) (source_body f vs h k, tt)), l)) (inl refl)
 
-here_one : {R : Type 0} (a : ℕ) (e : R) (f : Value R) (o : Option (List Bytes)) → a ≤ 999 → Here a (with_one_parameter e f o)
+here_one : {R : Type 0} (a : ℕ) (e : R) (f : Value R) (o : Option (List Bytes)) → a < 1000 → Here a (with_one_parameter e f o)
 here_one a e f None l = inl refl
 here_one a e f (Some params) l = here_if a (length params == 1) (Needs (RunEngine e f) []) (Next arity) (refl, refl, (λ q. l)) (inl refl)
 
-here_engine : {R : Type 0} (a : ℕ) (e : R) (vs : List (Value R)) → a ≤ 999 → Here a (call_engine e vs)
+here_engine : {R : Type 0} (a : ℕ) (e : R) (vs : List (Value R)) → a < 1000 → Here a (call_engine e vs)
 here_engine a e (f ∷ []) l = here_one a e f (params_of f) l
 here_engine a e [] l = inl refl
 here_engine a e (f ∷ g ∷ vs) l = inl refl
@@ -285,11 +285,11 @@ of_here : {R : Type 0} (a : ℕ) (x : Found R) → Here a x → Activated a 0 x
 of_here a (Next u) (inl e) = inl e
 of_here a (Next u) (inr h) = inr (inl (h.0, room_for a h.1))
   where
-    room_for : (a : ℕ) → a ≤ 999 → a + 1 ≤ 1000
+    room_for : (a : ℕ) → a < 1000 → a + 1 ≤ 1000
     room_for a l = omega arith
 of_here a (Needs op fs) h = (ap (λ n. a + n) (sym h.1) ∙ ap (λ gs. activations_at a gs + left_by op) (sym h.0), (λ e. same_room a (h.2 e)))
   where
-    same_room : (a : ℕ) → a ≤ 999 → a + 0 ≤ 999
+    same_room : (a : ℕ) → a < 1000 → a + 0 < 1000
     same_room a l = omega arith
 of_here a (Done v) h = absurd h
 of_here a (Uncaught r) h = refl
@@ -323,7 +323,7 @@ acts_through : {R : Type 0} (a n : ℕ) (k : Kind R) (before : List (Value R)) (
     → Activated (activations_in a k) n x → Activated a n (through (Pending k before after) g x)
 acts_through a n k before after g (Next u) z p next source h = next_in a n u (Form k (values_before before (Part u after))) (in_hole k before u after z p) (subst (λ b. Activated b n (Next u)) (no_activation_in a k z) h)
 acts_through a n k before after g (Needs op fs) z p next source h =
-    (ap (λ b. b + n) (sym (no_activation_in a k z)) ∙ h.0, (λ e. subst (λ b. b + n ≤ 999) (no_activation_in a k z) (h.1 e)))
+    (ap (λ b. b + n) (sym (no_activation_in a k z)) ∙ h.0, (λ e. subst (λ b. b + n < 1000) (no_activation_in a k z) (h.1 e)))
 acts_through a n k before after g (Done v) z p next source h = subst (λ m. Activated a m (g v)) (sym h) (next v (source v refl))
 acts_through a n k before after g (Uncaught r) z p next source h = subst (λ m. Activated a m (at_raised (Pending k before after) r)) (sym h) (of_here a (at_raised (Pending k before after) r) (here_raised a k before after r z p))
 
@@ -350,7 +350,7 @@ needs_inside a n op fs gs e h = (suc_moves a n ∙ h.0 ∙ ap (λ m. m + left_by
     suc_moves : (a n : ℕ) → a + suc n ≡ suc a + n
     suc_moves a n = omega arith
 
-    moved : (a n : ℕ) → suc a + n ≤ 999 → a + suc n ≤ 999
+    moved : (a n : ℕ) → suc a + n < 1000 → a + suc n < 1000
     moved a n l = omega arith
 
 acts_called : {R : Type 0} (a n : ℕ) (after : Parts R) (g : Value R → Found R) (x : Found R) → AreSource after → ((v : Value R) → Activated a 1 (g v)) → Activated (suc a) n x → Activated a (suc n) (through (Pending Called [] after) g x)

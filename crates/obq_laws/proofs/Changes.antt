@@ -1,6 +1,6 @@
 -- What an entry changes, and what the acts of owners need and keep.
-use Rattle.std.specs.Prelude.{Bool, List, None, Option, Some, [], false, if◌then◌else◌, length, nat_le, nat_lt, not, refl, slice_get, slice_set, suc, true, ℕ, ◌++◌, ◌∷◌, ◌≡◌, ◌||◌, ◌⊎◌}
-use Rattle.std.proofs.Common.{inl, inr, subst, ap, sym, ◌∙◌}
+use Rattle.std.specs.Prelude.{Bool, List, None, Option, Some, [], false, if◌then◌else◌, length, nat_le, not, refl, slice_get, slice_set, suc, true, zero, ℕ, ◌++◌, ◌<◌, ◌∷◌, ◌≡◌, ◌||◌, ◌⊎◌}
+use Rattle.std.proofs.Common.{inl, inr, subst, ap, sym, ◌∙◌, arith}
 use Rattle.obq_base.specs.declared.limits.TheConstants.{THREAD_LIMIT}
 use Rattle.obq_base.specs.declared.acts.ActKind.{ActKind}
 use Rattle.obq_base.specs.declared.acts.Act.{Act}
@@ -15,12 +15,12 @@ use Rattle.obq_model.specs.Effect.{Outcome, Waiting, Acting, Forking, ends_at, o
 use Rattle.obq_model.specs.OneCell.{behind, SameKind, RowLeaves}
 use Rattle.obq_model.proofs.Slices.{set_set}
 use Rattle.obq_model.proofs.OneCell.{leaves_cell, owned_same}
-use Rattle.obq_laws.specs.Keeping.{owner_at, holds, holds_now, IsFormedConfig, IsFormedIf, OwnersHold, OwnersHoldIf}
-use Rattle.obq_laws.specs.Locality.{IsLocalStore, SameStore, OneCell, OneName, OneMore, IsLocal, Same, OneThread, OneBegins, Locality, OwnersKept, needs_owner, OwnerAtAct}
+use Rattle.obq_laws.specs.Keeping.{owner_at, holds, holds_now, is_owner, marks_at, IsFormedConfig, IsFormedIf, OwnersHold, OwnersHoldIf}
+use Rattle.obq_laws.specs.Locality.{IsLocalStore, SameStore, OneCell, OneName, OneMore, IsLocal, Same, OneThread, OneBegins, Locality, OwnersKept, needs_owner, OwnerAtAct, OwnerIsThread}
 use Rattle.obq_laws.specs.Turns.{state_of, Turn, Steps, Acts, Forks, Ends, Raises, Turns, NoTurn, TheAct, AStep}
 use Rattle.obq_laws.proofs.Methods.{leaving, marks_around, AreSourceFrames, IsSourceOperation, IsGood, good_find}
 use Rattle.obq_laws.proofs.Formed.{GoodThreadState, good_state, entry_formed, formed_replay}
-use Rattle.obq_laws.proofs.OwnerLaw.{now_append, now_held, now_here, is_owner_some, frames_away, holds_self, nobody_of}
+use Rattle.obq_laws.proofs.OwnerLaw.{eq_refl, now_append, now_held, now_here, is_owner_some, frames_away, holds_self, nobody_of}
 use Rattle.obq_laws.proofs.OwnerReplay.{marks_get, LawOf, owned_entry, owner_law}
 use Rattle.obq_laws.proofs.Turns.{turn_by_turn}
 
@@ -172,3 +172,14 @@ owner_next k t used u op fs o c law here found need =
 pub owner_at_act : OwnerAtAct
 owner_at_act trees turns es k t used u op fs o r here found need =
     owner_next k t used u op fs o (subst IsFormedIf r (formed_replay trees turns es)) (subst OwnersHoldIf r (owner_law trees turns es)) here found need
+
+-- what is held is held in the term of a thread
+holding : (threads : List ThreadState) (t o : ℕ) → holds_now o (marks_at threads t) ≡ true → t < length threads
+holding [] t o h = absurd (cc h)
+holding (s ∷ ss) zero o h = omega arith
+holding (s ∷ ss) (suc t) o h = let rest : t < length ss = holding ss t o h in omega arith
+
+pub owner_is_thread : OwnerIsThread
+owner_is_thread trees turns es k o t r e =
+    let law : OwnersHold k.store k.threads = subst OwnersHoldIf r (owner_law trees turns es) in
+    holding k.threads t o (sym ((law t).1 o) ∙ ap (is_owner t) e ∙ eq_refl t)

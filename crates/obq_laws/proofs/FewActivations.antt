@@ -1,5 +1,5 @@
 -- No thread of a replay has more than 1,000 activations.
-use Rattle.std.specs.Prelude.{Bool, List, None, Option, Some, [], drop, false, if◌then◌else◌, length, nat_le, nat_lt, negsuc, not, pos, refl, slice_get, slice_set, suc, true, unwrap_or, zero, ℕ, ℤ, ◌++◌, ◌+◌, ◌==◌, ◌∷◌, ◌≡◌, ◌≤◌, ◌||◌, ◌⊎◌}
+use Rattle.std.specs.Prelude.{Bool, List, None, Option, Some, [], drop, false, if◌then◌else◌, length, nat_le, nat_lt, negsuc, not, pos, refl, slice_get, slice_set, suc, true, unwrap_or, zero, ℕ, ℤ, ◌++◌, ◌+◌, ◌==◌, ◌<◌, ◌∷◌, ◌≡◌, ◌≤◌, ◌||◌, ◌⊎◌}
 use Rattle.std.proofs.Common.{inl, inr, subst, ap, sym, ◌∙◌, arith}
 use Rattle.obq_base.specs.declared.limits.TheConstants.{THREAD_LIMIT}
 use Rattle.obq_base.specs.declared.acts.ActKind.{ActKind}
@@ -31,10 +31,10 @@ use Rattle.obq_laws.proofs.Activated.{source_none, sources_none, none_before, wi
 -- ---- what stands at the focus
 
 -- no activation, or one where the operation may begin one
-abbrev FewAt : Operation ℕ → Term ℕ → Type 0
+abbrev pub FewAt : Operation ℕ → Term ℕ → Type 0
 FewAt op focus = (activations_of focus ≡ 0) ⊎ ((activations_of focus ≡ 1) × (may_enter op ≡ true))
 
-abbrev FewOutcome : Operation ℕ → Outcome → Type 0
+abbrev pub FewOutcome : Operation ℕ → Outcome → Type 0
 FewOutcome op Waiting = Unit {0}
 FewOutcome op (Acting kind loc st focus) = FewAt op focus
 FewOutcome op (Forking loc new focus) = (activations_of new ≡ 0) × (activations_of focus ≡ 0) × (left_by op ≡ 0)
@@ -157,7 +157,7 @@ few_joined op st u (Some state) = by state.execution
     by (Returned v) = inl refl
     by (Failed e) = inl refl
 
-few_perform : (k : Config) (t : ℕ) (s : Self ℕ) (op : Operation ℕ) → IsSourceStore k.store → IsSourceOperation s op → FewOutcome op (perform k t s op)
+pub few_perform : (k : Config) (t : ℕ) (s : Self ℕ) (op : Operation ℕ) → IsSourceStore k.store → IsSourceOperation s op → FewOutcome op (perform k t s op)
 few_perform k t s (New cell after) i h = few_after (New cell after) after (length k.store.cells) cell h.1
 few_perform k t s (Get o x) i h = few_at_object k.store t s o (Get o x) (cell_at k.store o) h (source_get k.store.cells o i.0)
 few_perform k t s (CallMethod o x vs) i h = few_at_object k.store t s o (CallMethod o x vs) (cell_at k.store o) h (source_get k.store.cells o i.0)
@@ -212,7 +212,7 @@ at_zero n fs = ap (λ m. activations_at m fs) (zero_plus n) ∙ at_more 0 n fs
     zero_plus n = omega arith
 
 -- the activations of the whole are those around the hole and those in it
-acts_plug : (s : Self ℕ) (fs : List (Frame ℕ)) (t : Term ℕ) → AreSourceFrames s fs → activations_of (plug fs t) ≡ activations_at 0 fs + activations_of t
+pub acts_plug : (s : Self ℕ) (fs : List (Frame ℕ)) (t : Term ℕ) → AreSourceFrames s fs → activations_of (plug fs t) ≡ activations_at 0 fs + activations_of t
 acts_plug s [] t h = sym (zero (activations_of t))
   where
     zero : (n : ℕ) → 0 + n ≡ n
@@ -278,18 +278,18 @@ act_few n op fs focus h s l (inr q) =
     let whole : activations_of (plug fs focus) ≡ activations_at 0 fs + activations_of focus = acts_plug no_self fs focus s in
     let count : 0 + n ≡ activations_at 0 fs + left_by op = h.0 in
     let one : activations_of focus ≡ 1 = q.0 in
-    let room : 0 + n ≤ 999 = h.1 q.1 in omega arith
+    let room : 0 + n < 1000 = h.1 q.1 in omega arith
 
 abbrev IsFewWell : Config → Type 0
 IsFewWell k = IsFormedConfig k × AreFewThreads k.threads
 
 -- what stands next in a thread, in source frames
-next_acts : (turns : ℕ) (k : Config) (t : ℕ) (u : Term ℕ) (used : ℕ) → IsFormedConfig k → CanGo turns k t u used → Activated 0 (activations_of u) (find same_loc 0 no_self u)
+pub next_acts : (turns : ℕ) (k : Config) (t : ℕ) (u : Term ℕ) (used : ℕ) → IsFormedConfig k → CanGo turns k t u used → Activated 0 (activations_of u) (find same_loc 0 no_self u)
 next_acts turns k t u used c g =
     let good : GoodThreadState k.store (Some (state_of (Running u) used)) = subst (GoodThreadState k.store) g.is_there (good_state k.store k.threads t c.0.1 c.1) in
     found_activations same_loc 0 no_self u good.0
 
-next_source : (turns : ℕ) (k : Config) (t : ℕ) (u : Term ℕ) (used : ℕ) (op : Operation ℕ) (fs : List (Frame ℕ)) → IsFormedConfig k → CanGo turns k t u used → find same_loc 0 no_self u ≡ Needs op fs → AreSourceFrames no_self fs × IsSourceOperation (self_at no_self fs) op
+pub next_source : (turns : ℕ) (k : Config) (t : ℕ) (u : Term ℕ) (used : ℕ) (op : Operation ℕ) (fs : List (Frame ℕ)) → IsFormedConfig k → CanGo turns k t u used → find same_loc 0 no_self u ≡ Needs op fs → AreSourceFrames no_self fs × IsSourceOperation (self_at no_self fs) op
 next_source turns k t u used op fs c g f =
     let good : GoodThreadState k.store (Some (state_of (Running u) used)) = subst (GoodThreadState k.store) g.is_there (good_state k.store k.threads t c.0.1 c.1) in
     let g2 : IsGood no_self (marks_of u) (Needs op fs) = subst (IsGood no_self (marks_of u)) f (good_find same_loc 0 no_self u good.0) in

@@ -1,5 +1,5 @@
 -- Which threads stand in the lines of conditions.
-use Rattle.std.specs.Prelude.{Bool, List, None, Option, Some, T, [], drop, false, if◌then◌else◌, length, nat_le, nat_lt, not, refl, replicate, slice_get, slice_set, suc, true, zero, ℕ, ◌++◌, ◌<◌, ◌==◌, ◌∷◌, ◌≡◌, ◌||◌}
+use Rattle.std.specs.Prelude.{Bool, List, None, Option, Some, T, [], drop, false, if◌then◌else◌, length, nat_le, not, refl, replicate, slice_get, slice_set, suc, true, zero, ℕ, ◌++◌, ◌<◌, ◌==◌, ◌∷◌, ◌≡◌, ◌||◌}
 use Rattle.std.proofs.Common.{inl, inr, subst, ap, sym, ◌∙◌, arith}
 use Rattle.std.proofs.lemmas.Bool.{eqb-true, eqb-false}
 use Rattle.obq_base.specs.declared.limits.TheConstants.{THREAD_LIMIT}

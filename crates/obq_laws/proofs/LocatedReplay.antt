@@ -28,7 +28,7 @@ after_same : (sites : ℕ) (l : Located) (k : Config) (e : Entry) (t u : Term �
 after_same sites l k e t u tr None q = ap (λ (o : Option Act). let after : Located = elim o [ None ↦ record l { config = k; thread_sites = slice_set l.thread_sites e.thread tr.0; replies = tr.1 } | Some a ↦ after_act l k e.thread u tr (site_at sites l (site_here tr.0) (place_in (find same_loc 0 no_self u))) ] in after) q
 after_same sites l k e t u tr (Some a) q = ap (λ (o : Option Act). let after : Located = elim o [ None ↦ record l { config = k; thread_sites = slice_set l.thread_sites e.thread tr.0; replies = tr.1 } | Some a ↦ after_act l k e.thread u tr (site_at sites l (site_here tr.0) (place_in (find same_loc 0 no_self u))) ] in after) q
 
-located_is : (sites : ℕ) (l : Located) (k : Config) (e : Entry) (x : Execution) → (locate_execution sites l k e x).config ≡ k
+pub located_is : (sites : ℕ) (l : Located) (k : Config) (e : Entry) (x : Execution) → (locate_execution sites l k e x).config ≡ k
 located_is sites l k e (Running t) =
     let u : Term ℕ = unwrap_or (after_pure e.pure t) t in
     let tr : Trail = after_steps e.pure t (slice_index_or l.thread_sites e.thread [], l.replies) in
@@ -36,13 +36,13 @@ located_is sites l k e (Running t) =
 located_is sites l k e (Returned v) = refl
 located_is sites l k e (Failed x) = refl
 
-abbrev thread_from : ℕ → Located → Entry → Config → Option ThreadState → Option Located
+abbrev pub thread_from : ℕ → Located → Entry → Config → Option ThreadState → Option Located
 thread_from sites l e k s = elim s [ None ↦ None | Some state ↦ Some (locate_execution sites l k e state.execution) ]
 
-abbrev entry_from : ℕ → Located → Entry → Option Config → Option Located
+abbrev pub entry_from : ℕ → Located → Entry → Option Config → Option Located
 entry_from sites l e o = elim o [ None ↦ None | Some k ↦ thread_from sites l e k (slice_get l.config.threads e.thread) ]
 
-abbrev rest_from : ℕ → ℕ → List Entry → Option Located → Option Located
+abbrev pub rest_from : ℕ → ℕ → List Entry → Option Located → Option Located
 rest_from sites turns es o = elim o [ None ↦ None | Some l2 ↦ locate_from sites turns l2 es ]
 
 abbrev onward : ℕ → List Entry → Option Config → Option Config

@@ -28,11 +28,11 @@ add_thread : (ts : List ThreadState) (state : ThreadState) → AreShapedThreads 
 add_thread [] state h i = (i, tt)
 add_thread (u ∷ ts) state h i = (h.0, add_thread ts state h.1 i)
 
-abbrev ShapedState : Option ThreadState → Type 0
+abbrev pub ShapedState : Option ThreadState → Type 0
 ShapedState None = Unit {0}
 ShapedState (Some state) = IsShapedExecution state.execution
 
-thread_at : (ts : List ThreadState) (t : ℕ) → AreShapedThreads ts → ShapedState (slice_get ts t)
+pub thread_at : (ts : List ThreadState) (t : ℕ) → AreShapedThreads ts → ShapedState (slice_get ts t)
 thread_at [] t h = tt
 thread_at (u ∷ ts) zero h = h.0
 thread_at (u ∷ ts) (suc t) h = thread_at ts t h.1
@@ -154,5 +154,8 @@ opening_writers : (n : ℕ) → AreShapedCells (replicate n (WriterCell []))
 opening_writers zero = tt
 opening_writers (suc n) = (tt, opening_writers n)
 
+pub shaped_opening : (trees : List BlockTree) → IsShapedConfig (opening trees)
+shaped_opening trees = ((opening_writers (length (opening_terms 0 trees)), tt), opening_threads 0 trees)
+
 pub shaped_replay : ShapedReplay
-shaped_replay trees turns entries = replay_shaped turns (opening trees) entries ((opening_writers (length (opening_terms 0 trees)), tt), opening_threads 0 trees)
+shaped_replay trees turns entries = replay_shaped turns (opening trees) entries (shaped_opening trees)

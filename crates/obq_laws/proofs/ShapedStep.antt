@@ -283,17 +283,17 @@ try_after [] t after h = h.1
 try_after (v ∷ vs) t after h = after_terms vs t after h.1
 
 -- the final block of a `try`; where the hole is that block, there is none after it
+no_parts : {R : Type 0} (vs : List (Value R)) (t : Term R) (after : Parts R) → AreShaped NoParts (values_before vs (Part t after)) → ⊥
+no_parts [] t after h = h
+no_parts (v ∷ vs) t after h = h
+
 final_block : {R : Type 0} (vs : List (Value R)) (t : Term R) (after : Parts R) → AreShaped (ATerm (ATerm NoParts)) (values_before vs (Part t after)) → IsShaped (part_at after 0)
 final_block [] t (Part last End) h = h.1.0
 final_block [] t End h = absurd h.1
 final_block [] t (Part last (Part u us)) h = absurd h.1.1
 final_block (v ∷ []) t End h = tt
 final_block (v ∷ []) t (Part u us) h = absurd h.1.1
-final_block {R} (v ∷ w ∷ vs) t after h = absurd (no_more vs t after h.1.1)
-  where
-    no_more : (vs : List (Value R)) (t : Term R) (after : Parts R) → AreShaped NoParts (values_before vs (Part t after)) → ⊥
-    no_more [] t after h = h
-    no_more (v ∷ vs) t after h = h
+final_block (v ∷ w ∷ vs) t after h = absurd (no_parts vs t after h.1.1)
 
 shaped_loop : (R : Type 0) (r : Raised) → ShapedFound {R = R} (out_of_loop r)
 shaped_loop R ExitUp = tt
@@ -332,7 +332,7 @@ is_bound_at AGroup zero = true
 is_bound_at p i = false
 
 -- a part that is a term by itself may be replaced by another one
-replaceable : {R : Type 0} (p : Pattern) (before : List (Value R)) (t : Term R) (after : Parts R) → AreShaped p (values_before before (Part t after)) → is_bound_at p (length before) ≡ false → IsShaped t × ((u : Term R) → IsShaped u → AreShaped p (values_before before (Part u after)))
+pub replaceable : {R : Type 0} (p : Pattern) (before : List (Value R)) (t : Term R) (after : Parts R) → AreShaped p (values_before before (Part t after)) → is_bound_at p (length before) ≡ false → IsShaped t × ((u : Term R) → IsShaped u → AreShaped p (values_before before (Part u after)))
 replaceable (ATerm p) [] t after h e = (h.0, λ u i. (i, h.1))
 replaceable Terms [] t after h e = (h.0, λ u i. (i, h.1))
 replaceable AtMostOne [] t End h e = (h, λ u i. i)
@@ -355,7 +355,7 @@ replaceable AGroup (v ∷ w ∷ vs) t after h e = absurd h
 replaceable NoParts (v ∷ vs) t after h e = absurd h
 replaceable Never (v ∷ vs) t after h e = absurd h
 
-not_zero : (i : ℕ) → (suc i == 0) ≡ true → ⊥
+pub not_zero : (i : ℕ) → (suc i == 0) ≡ true → ⊥
 not_zero i e = above (eqb-true (suc i) 0 e)
   where
     above : suc i ≡ 0 → ⊥
@@ -373,7 +373,7 @@ terms_unbound (suc n) (suc i) p e = terms_unbound n i p (lt-ltb i n (less (ltb-t
     less h = omega arith
 
 -- an operand is a term by itself
-operand_unbound : {R : Type 0} (k : Kind R) (i : ℕ) → is_operand k i ≡ true → is_bound_at (pattern_of k) i ≡ false
+pub operand_unbound : {R : Type 0} (k : Kind R) (i : ℕ) → is_operand k i ≡ true → is_bound_at (pattern_of k) i ≡ false
 operand_unbound Let zero e = refl
 operand_unbound Let (suc i) e = absurd (not_zero i e)
 operand_unbound Var zero e = refl
@@ -404,7 +404,7 @@ operand_unbound _ (suc (suc (suc i))) e = refl
 
 -- ---- the walk
 
-values_snoc : {R : Type 0} (vs : List (Value R)) (v : Value R) (ts : Parts R) → values_before (vs ++ v ∷ []) ts ≡ values_before vs (Part (Const v) ts)
+pub values_snoc : {R : Type 0} (vs : List (Value R)) (v : Value R) (ts : Parts R) → values_before (vs ++ v ∷ []) ts ≡ values_before vs (Part (Const v) ts)
 values_snoc [] v ts = refl
 values_snoc (u ∷ vs) v ts = ap (Part (Const u)) (values_snoc vs v ts)
 

@@ -1,5 +1,5 @@
 -- The sites of the located fold: each cell has one, and each thread one more than it has activations.
-use Rattle.std.specs.Prelude.{Bool, List, None, Option, Some, [], drop, false, if◌then◌else◌, length, map, nat_lt, refl, replicate, slice_get, slice_index_or, slice_set, suc, true, unwrap_or, zero, ℕ, ◌++◌, ◌+◌, ◌<◌, ◌==◌, ◌∷◌, ◌≡◌, ◌≤◌, ◌⊎◌}
+use Rattle.std.specs.Prelude.{Bool, List, None, Option, Some, [], drop, false, if◌then◌else◌, length, nat_lt, refl, suc, true, zero, ℕ, ◌<◌, ◌∷◌, ◌≡◌, ◌≤◌, ◌⊎◌}
 use Rattle.std.proofs.Common.{inl, inr, subst, ap, sym, ◌∙◌, arith}
 use Rattle.std.proofs.lemmas.Bool.Decides.{nat_tests}
 use Rattle.obq_model.specs.Terms.{Term}
@@ -37,7 +37,7 @@ turned_trail site b a tr e h = by (nat_lt b a) refl (nat_lt a b) refl h
     by false p false q (inr (inr k)) = let l : b ≤ a = grind (arith, nat_tests) in absurd (omega arith)
 
 -- a pure step changes the activations by at most one
-step_by_one : (n : ℕ) (x : Found ℕ) (v : Term ℕ) → Activated 0 n x → next_of x ≡ Some v → ByOne n (activations_of v)
+pub step_by_one : (n : ℕ) (x : Found ℕ) (v : Term ℕ) → Activated 0 n x → next_of x ≡ Some v → ByOne n (activations_of v)
 step_by_one n (Next u) v h e = let same : u ≡ v = cc e in subst (λ w. ByOne n (activations_of w)) same (by h)
   where
     by : Activated 0 n (Next u) → ByOne n (activations_of u)

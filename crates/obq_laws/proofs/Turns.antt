@@ -24,8 +24,8 @@ use Rattle.obq_laws.proofs.Determinism.{cut_entry}
 
 -- ---- a turn that is counted
 
-pub turned : (k : Config) (t n : ℕ) (old : ThreadState) (l : Execution) → slice_get k.threads t ≡ Some old → with_turns t n (with_execution k t l) ≡ changed k t l (old.used + n) k.store
-turned k t n old l e =
+pub turns_counted : (k : Config) (t n : ℕ) (old : ThreadState) (l : Execution) → slice_get k.threads t ≡ Some old → with_turns t n (with_execution k t l) ≡ changed k t l (old.used + n) k.store
+turns_counted k t n old l e =
     let used : ℕ = (slice_index_or k.threads t (state_of l 0)).used in
     let state : ThreadState = state_of l used in
     ap (λ (o : Option ThreadState). record k { threads = elim o [ None ↦ slice_set k.threads t state | Some s ↦ slice_set (slice_set k.threads t state) t (spend n s) ] }) (set_same k.threads t state (get_below k.threads t old e))
@@ -39,12 +39,12 @@ no_more : (used : ℕ) → used + 0 ≡ used
 no_more used = omega arith
 
 turned_once : (k : Config) (t used : ℕ) (u : Term ℕ) (l : Execution) → slice_get k.threads t ≡ Some (state_of (Running u) used) → with_turns t 1 (with_execution k t l) ≡ changed k t l (suc used) k.store
-turned_once k t used u l e = turned k t 1 (state_of (Running u) used) l e ∙ ap (λ n. changed k t l n k.store) (one_more used)
+turned_once k t used u l e = turns_counted k t 1 (state_of (Running u) used) l e ∙ ap (λ n. changed k t l n k.store) (one_more used)
 
 -- an entry without steps begins where it is
 pub stays : (k : Config) (t used : ℕ) (u : Term ℕ) → slice_get k.threads t ≡ Some (state_of (Running u) used) → with_turns t 0 (with_execution k t (Running u)) ≡ k
 stays k t used u here =
-    turned k t 0 (state_of (Running u) used) (Running u) here
+    turns_counted k t 0 (state_of (Running u) used) (Running u) here
     ∙ ap (λ n. changed k t (Running u) n k.store) (no_more used)
     ∙ ap (λ (ts : List ThreadState). record k { threads = ts }) (set_own k.threads t (state_of (Running u) used) here)
 

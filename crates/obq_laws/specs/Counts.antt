@@ -1,6 +1,7 @@
 -- How many turns, threads and cells there are.
 use Rattle.std.specs.Prelude.{List, Some, [], length, max, ℕ, ◌+◌, ◌∷◌, ◌≡◌, ◌≤◌}
 use Rattle.obq_base.specs.declared.acts.Entry.{Entry}
+use Rattle.obq_base.specs.declared.limits.TheConstants.{THREAD_LIMIT}
 use Rattle.obq_base.specs.Tree.{BlockTree}
 use Rattle.obq_model.specs.Config.{ThreadState, Config}
 use Rattle.obq_model.specs.Replay.{replay}
@@ -18,7 +19,7 @@ UsedAtMost turns (s ∷ ss) = (s.used ≤ turns) × UsedAtMost turns ss
 -- cells are at most as many as the sites and the turns that all threads have used, threads at most 64 or as many as the sites,
 -- and no thread has used more turns than the limit
 abbrev pub AreFew : (sites : ℕ) → (turns : ℕ) → Config → Type 0
-AreFew sites turns k = (length k.store.cells ≤ sites + total_used k.threads) × (length k.threads ≤ max 64 sites) × UsedAtMost turns k.threads
+AreFew sites turns k = (length k.store.cells ≤ sites + total_used k.threads) × (length k.threads ≤ max THREAD_LIMIT sites) × UsedAtMost turns k.threads
 
 -- so in every configuration that a journal of a program replays to
 abbrev pub CountsLaw : Type 0

@@ -2,6 +2,7 @@
 -- each member an index of its group, and no closure lies too deep.
 use Rattle.std.specs.Prelude.{List, None, Option, Some, [], length, slice_get, ℕ, ◌<◌, ◌∷◌, ◌≡◌, ◌≤◌}
 use Rattle.obq_base.specs.declared.acts.Entry.{Entry}
+use Rattle.obq_base.specs.declared.limits.TheConstants.{ARRAY_LIMIT, CLOSURE_LIMIT}
 use Rattle.obq_base.specs.Tree.{BlockTree}
 use Rattle.obq_model.specs.Terms.{Bytes, LocKind, Object, Array, Variable, Writer, Condition, Engine, Value, Thread, Closure, Member, Loc, FieldBody, IsValue, IsMethod, IsAlias, Fields, Bare, Field, Kind, Read, Within, EachAt, EachIn, Cloning, Testing, Lined, Out, Term, Const, Name, Under, Form, Parts, End, Part}
 use Rattle.obq_model.specs.Depth.{deepest, deepest_of}
@@ -36,8 +37,8 @@ abbrev mutual
 
   pub IsKnownValue : {R : Type 0} → Places R → Threads → Value R → Type 0
   IsKnownValue L T (Thread n) = T n
-  IsKnownValue L T (Closure params body) = (deepest body ≤ 1000) × IsKnown L T body
-  IsKnownValue L T (Member names group i) = (i < length names) × (deepest_of group ≤ 1000) × AreKnown L T group
+  IsKnownValue L T (Closure params body) = (deepest body ≤ CLOSURE_LIMIT) × IsKnown L T body
+  IsKnownValue L T (Member names group i) = (i < length names) × (deepest_of group ≤ CLOSURE_LIMIT) × AreKnown L T group
   IsKnownValue L T (Loc kind r) = L kind r
   IsKnownValue L T v = Unit {0}
 
@@ -58,7 +59,7 @@ abbrev mutual
 
   pub IsKnownBody : {R : Type 0} → Places R → Threads → FieldBody R → Type 0
   IsKnownBody L T (IsValue v) = IsKnownValue L T v
-  IsKnownBody L T (IsMethod params body) = (deepest body ≤ 1000) × IsKnown L T body
+  IsKnownBody L T (IsMethod params body) = (deepest body ≤ CLOSURE_LIMIT) × IsKnown L T body
   IsKnownBody L T (IsAlias o x) = L Object o
 
 -- all values are so
@@ -69,7 +70,7 @@ AllKnown L T (v ∷ vs) = IsKnownValue L T v × AllKnown L T vs
 -- what a cell holds is so, and an array isn't too long
 abbrev pub IsKnownCell : {R : Type 0} → Places R → Threads → Cell R → Type 0
 IsKnownCell L T (ObjectCell flags owner fields) = AreKnownFields L T fields
-IsKnownCell L T (ArrayCell vs) = (length vs ≤ 65536) × AllKnown L T vs
+IsKnownCell L T (ArrayCell vs) = (length vs ≤ ARRAY_LIMIT) × AllKnown L T vs
 IsKnownCell L T (VariableCell v) = IsKnownValue L T v
 IsKnownCell L T (EngineCell v) = IsKnownValue L T v
 IsKnownCell L T cell = Unit {0}

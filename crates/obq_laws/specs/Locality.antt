@@ -1,5 +1,5 @@
 -- What an entry changes, and what the acts of owners need and keep.
-use Rattle.std.specs.Prelude.{List, None, Option, Some, [], slice_get, slice_set, ℕ, ◌++◌, ◌∷◌, ◌≡◌}
+use Rattle.std.specs.Prelude.{List, None, Option, Some, [], length, slice_get, slice_set, ℕ, ◌++◌, ◌<◌, ◌∷◌, ◌≡◌}
 use Rattle.obq_base.specs.declared.acts.Entry.{Entry}
 use Rattle.obq_base.specs.Tree.{BlockTree}
 use Rattle.obq_model.specs.Terms.{Bytes, Value, Term}
@@ -44,3 +44,7 @@ abbrev pub OwnerAtAct : Type 0
 OwnerAtAct =
     (trees : List BlockTree) (turns : ℕ) (es : List Entry) (k : Config) (t used : ℕ) (u : Term ℕ) (op : Operation ℕ) (fs : List (Frame ℕ)) (o : ℕ)
     → replay trees turns es ≡ Some k → slice_get k.threads t ≡ Some (state_of (Running u) used) → find same_loc 0 no_self u ≡ Needs op fs → needs_owner op ≡ Some o → owner_at k.store o ≡ Some t
+
+-- the owner of an object is the number of a thread
+abbrev pub OwnerIsThread : Type 0
+OwnerIsThread = (trees : List BlockTree) (turns : ℕ) (es : List Entry) (k : Config) (o t : ℕ) → replay trees turns es ≡ Some k → owner_at k.store o ≡ Some t → t < length k.threads
