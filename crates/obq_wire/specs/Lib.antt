@@ -1,0 +1,5 @@
+pub mod Spelling
+pub mod Fits
+pub mod Order
+pub mod Reading
+pub mod Frames

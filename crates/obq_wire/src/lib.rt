@@ -1,0 +1,11 @@
+//! Frames: the bytes that sites send each other, and what they say.
+#![tactic(auto)]
+
+mod packets;
+mod parts;
+mod refusal;
+mod values;
+
+pub use packets::{Current, Operation, Outcome, Packet, Reply, Request, Wake};
+pub use refusal::WireRefused;
+pub use values::{TableEntry, TableMember, WireBody, WireField, WireValue};
