@@ -84,13 +84,13 @@ IsCodeNumber c = (c.source < 2 ^ 16) × (c.n < 2 ^ 32)
 abbrev pub IsEntry : List TableEntry → TableEntry → Type 0
 IsEntry earlier e = IsGroupNumber e.number × (IsList IsCodeNumber e.codes × IsList (IsValue earlier) e.captured)
 
--- entries behind earlier ones
-abbrev pub AreEntries : List TableEntry → List TableEntry → Type 0
-AreEntries earlier [] = ⊤
-AreEntries earlier (e ∷ es) = IsEntry earlier e × AreEntries (earlier ++ e ∷ []) es
+-- each is such behind those before it
+abbrev pub Each : {A : Type 0} → (List A → A → Type 0) → List A → List A → Type 0
+Each P before [] = ⊤
+Each P before (x ∷ xs) = P before x × Each P (before ++ x ∷ []) xs
 
 abbrev pub IsTable : List TableEntry → Type 0
-IsTable table = (length table < 2 ^ 32) × AreEntries [] table
+IsTable table = (length table < 2 ^ 32) × Each IsEntry [] table
 
 abbrev pub IsBody : List TableEntry → WireBody → Type 0
 IsBody table (b.Value x) = IsValue table x

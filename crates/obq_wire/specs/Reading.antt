@@ -25,6 +25,7 @@ use Rattle.obq_wire.specs.declared.packets.Request.{Request}
 use Rattle.obq_wire.specs.declared.packets.Wake.{Wake}
 use Rattle.obq_wire.specs.declared.refusal.Refused.{Refused}
 use Rattle.obq_wire.specs.declared.refusal.Refused.TheVariants as refused
+use Rattle.obq_wire.specs.declared.tags.TheConstants.{AGAIN, ARRAY_ITEM, ARRAY_SET, ARRAY_SIZE, BROADCAST, CALL, COPY, ENGINE, EXPORT, GET, GIVE_UP, IMPORT, JOIN, LINE, PUT, REDIRECT, SET, SIGNAL, VAR_GET, VAR_SET}
 use Rattle.obq_wire.specs.declared.values.TableEntry.{TableEntry}
 use Rattle.obq_wire.specs.declared.values.TableMember.{TableMember}
 use Rattle.obq_wire.specs.declared.values.WireBody.{WireBody}
@@ -230,26 +231,26 @@ procedure_at table = tagged ((5, closure_at table) ∷ [])
 
 abbrev pub operation_arms : List TableEntry → List (ℕ × Reader Operation)
 operation_arms table =
-    (1, two_parts (cell_at kind.Object) name_at op.Get)
-    ∷ (2, three_parts (cell_at kind.Object) name_at (values_at table) op.Call)
-    ∷ (3, three_parts (cell_at kind.Object) name_at (body_at table) op.Set)
-    ∷ (4, one_part (cell_at kind.Object) op.Copy)
-    ∷ (5, two_parts (cell_at kind.Object) (cell_at kind.Object) op.Redirect)
-    ∷ (6, two_parts (cell_at kind.Array) integer_at op.ArrayItem)
-    ∷ (7, one_part (cell_at kind.Array) op.ArraySize)
-    ∷ (8, three_parts (cell_at kind.Array) integer_at (value_at table) op.ArraySet)
-    ∷ (9, one_part (cell_at kind.Variable) op.VarGet)
-    ∷ (10, two_parts (cell_at kind.Variable) (value_at table) op.VarSet)
-    ∷ (11, two_parts (cell_at kind.Writer) text_at op.Put)
-    ∷ (12, one_part thread_at op.Join)
-    ∷ (13, two_parts (cell_at kind.Condition) (cell_at kind.Object) op.Line)
-    ∷ (14, one_part (cell_at kind.Object) op.GiveUp)
-    ∷ (15, two_parts (cell_at kind.Object) (cell_at kind.Condition) op.Again)
-    ∷ (16, one_part (cell_at kind.Condition) op.Signal)
-    ∷ (17, one_part (cell_at kind.Condition) op.Broadcast)
-    ∷ (18, two_parts text_at (value_at table) op.Export)
-    ∷ (19, two_parts text_at truth_at op.Import)
-    ∷ (20, two_parts (cell_at kind.Engine) (procedure_at table) op.Engine)
+    (GET, two_parts (cell_at kind.Object) name_at op.Get)
+    ∷ (CALL, three_parts (cell_at kind.Object) name_at (values_at table) op.Call)
+    ∷ (SET, three_parts (cell_at kind.Object) name_at (body_at table) op.Set)
+    ∷ (COPY, one_part (cell_at kind.Object) op.Copy)
+    ∷ (REDIRECT, two_parts (cell_at kind.Object) (cell_at kind.Object) op.Redirect)
+    ∷ (ARRAY_ITEM, two_parts (cell_at kind.Array) integer_at op.ArrayItem)
+    ∷ (ARRAY_SIZE, one_part (cell_at kind.Array) op.ArraySize)
+    ∷ (ARRAY_SET, three_parts (cell_at kind.Array) integer_at (value_at table) op.ArraySet)
+    ∷ (VAR_GET, one_part (cell_at kind.Variable) op.VarGet)
+    ∷ (VAR_SET, two_parts (cell_at kind.Variable) (value_at table) op.VarSet)
+    ∷ (PUT, two_parts (cell_at kind.Writer) text_at op.Put)
+    ∷ (JOIN, one_part thread_at op.Join)
+    ∷ (LINE, two_parts (cell_at kind.Condition) (cell_at kind.Object) op.Line)
+    ∷ (GIVE_UP, one_part (cell_at kind.Object) op.GiveUp)
+    ∷ (AGAIN, two_parts (cell_at kind.Object) (cell_at kind.Condition) op.Again)
+    ∷ (SIGNAL, one_part (cell_at kind.Condition) op.Signal)
+    ∷ (BROADCAST, one_part (cell_at kind.Condition) op.Broadcast)
+    ∷ (EXPORT, two_parts text_at (value_at table) op.Export)
+    ∷ (IMPORT, two_parts text_at truth_at op.Import)
+    ∷ (ENGINE, two_parts (cell_at kind.Engine) (procedure_at table) op.Engine)
     ∷ []
 
 unfoldable pub operation_at : List TableEntry → Reader Operation

@@ -19,6 +19,7 @@ use Rattle.obq_wire.specs.declared.packets.Outcome.{Outcome}
 use Rattle.obq_wire.specs.declared.packets.Outcome.TheVariants as o
 use Rattle.obq_wire.specs.declared.packets.Packet.{Packet}
 use Rattle.obq_wire.specs.declared.packets.Packet.TheVariants as p
+use Rattle.obq_wire.specs.declared.tags.TheConstants.{AGAIN, ARRAY_ITEM, ARRAY_SET, ARRAY_SIZE, BROADCAST, CALL, COPY, ENGINE, EXPORT, GET, GIVE_UP, IMPORT, JOIN, LINE, PUT, REDIRECT, SET, SIGNAL, VAR_GET, VAR_SET}
 use Rattle.obq_wire.specs.declared.values.TableEntry.{TableEntry}
 use Rattle.obq_wire.specs.declared.values.TableMember.{TableMember}
 use Rattle.obq_wire.specs.declared.values.WireBody.{WireBody}
@@ -106,26 +107,26 @@ abbrev pub flags_number : Flags → ℕ
 flags_number f = flag_bits f.protected f.serialized
 
 abbrev pub operation : Operation → List ℕ
-operation (op.Get object name) = 1 ∷ (reference object ++ string name)
-operation (op.Call object name arguments) = 2 ∷ (reference object ++ (string name ++ list value arguments))
-operation (op.Set object name new) = 3 ∷ (reference object ++ (string name ++ body new))
-operation (op.Copy object) = 4 ∷ reference object
-operation (op.Redirect object target) = 5 ∷ (reference object ++ reference target)
-operation (op.ArrayItem array index) = 6 ∷ (reference array ++ integer index)
-operation (op.ArraySize array) = 7 ∷ reference array
-operation (op.ArraySet array index new) = 8 ∷ (reference array ++ (integer index ++ value new))
-operation (op.VarGet variable) = 9 ∷ reference variable
-operation (op.VarSet variable new) = 10 ∷ (reference variable ++ value new)
-operation (op.Put writer text) = 11 ∷ (reference writer ++ string text)
-operation (op.Join t) = 12 ∷ thread t
-operation (op.Line condition object) = 13 ∷ (reference condition ++ reference object)
-operation (op.GiveUp object) = 14 ∷ reference object
-operation (op.Again object condition) = 15 ∷ (reference object ++ reference condition)
-operation (op.Signal condition) = 16 ∷ reference condition
-operation (op.Broadcast condition) = 17 ∷ reference condition
-operation (op.Export name new) = 18 ∷ (string name ++ value new)
-operation (op.Import name engine) = 19 ∷ (string name ++ (truth engine ∷ []))
-operation (op.Engine engine procedure) = 20 ∷ (reference engine ++ (5 ∷ closure procedure))
+operation (op.Get object name) = GET ∷ (reference object ++ string name)
+operation (op.Call object name arguments) = CALL ∷ (reference object ++ (string name ++ list value arguments))
+operation (op.Set object name new) = SET ∷ (reference object ++ (string name ++ body new))
+operation (op.Copy object) = COPY ∷ reference object
+operation (op.Redirect object target) = REDIRECT ∷ (reference object ++ reference target)
+operation (op.ArrayItem array index) = ARRAY_ITEM ∷ (reference array ++ integer index)
+operation (op.ArraySize array) = ARRAY_SIZE ∷ reference array
+operation (op.ArraySet array index new) = ARRAY_SET ∷ (reference array ++ (integer index ++ value new))
+operation (op.VarGet variable) = VAR_GET ∷ reference variable
+operation (op.VarSet variable new) = VAR_SET ∷ (reference variable ++ value new)
+operation (op.Put writer text) = PUT ∷ (reference writer ++ string text)
+operation (op.Join t) = JOIN ∷ thread t
+operation (op.Line condition object) = LINE ∷ (reference condition ++ reference object)
+operation (op.GiveUp object) = GIVE_UP ∷ reference object
+operation (op.Again object condition) = AGAIN ∷ (reference object ++ reference condition)
+operation (op.Signal condition) = SIGNAL ∷ reference condition
+operation (op.Broadcast condition) = BROADCAST ∷ reference condition
+operation (op.Export name new) = EXPORT ∷ (string name ++ value new)
+operation (op.Import name engine) = IMPORT ∷ (string name ++ (truth engine ∷ []))
+operation (op.Engine engine procedure) = ENGINE ∷ (reference engine ++ (5 ∷ closure procedure))
 
 abbrev pub outcome : Outcome → List ℕ
 outcome (o.Value v) = 0 ∷ value v

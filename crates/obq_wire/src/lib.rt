@@ -3,7 +3,10 @@
 
 mod packets;
 mod parts;
+mod read_packets;
+mod read_values;
 mod refusal;
+mod tags;
 mod values;
 
 pub use packets::{Current, Operation, Outcome, Packet, Reply, Request, Wake};

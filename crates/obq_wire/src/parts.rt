@@ -1,6 +1,6 @@
 //! The parts of a frame that name no other part: numbers, byte strings, references and flags.
 
-ghost use Rattle.std.specs.Prelude.{◌≡◌};
+ghost use Rattle.std.specs.Prelude.{◌≡◌, ◌<◌, IfOk};
 ghost use Rattle.std.specs.Int.{w16, w32, w64};
 ghost use Rattle.obq_wire.specs.Spelling.{kind_number};
 ghost use Rattle.obq_wire.specs.Reading.{Gives, byte_at, below, cell_at, code_number_at, depth_at, flags_at, group_number_at, in_range, integer_at, kind_at, name_at, number_at, only, reference_at, site_at, string_at, text_at, thread_at, truth_at};
@@ -63,7 +63,8 @@ pub(crate) fn integer_of(bytes: &[u8]) -> Result<(i64, &[u8]), Refused>
 }
 
 pub(crate) fn u32_below(bound: usize, bytes: &[u8]) -> Result<(u32, &[u8]), Refused>
-    ensures { Gives (λ x. (x.0, x.1.now)) result (in_range (number_at w32) (below bound) bytes.now) }
+    ensures read { Gives (λ x. (x.0, x.1.now)) result (in_range (number_at w32) (below bound) bytes.now) }
+    ensures within { IfOk result (λ x. x.0 < bound) }
 {
     let (number, rest) = u32_of(bytes)?;
     if number as usize >= bound {
