@@ -1,165 +1,118 @@
--- Operations, outcomes and packets are read as they are spelled.
-use Rattle.std.proofs.Common.{◌≡◌, ℕ, suc, ◌+◌, ◌^◌, ◌<◌, ◌≤◌, List, [], ◌∷◌, ◌++◌, length, Result, Ok, Err, refl, sym, ap, subst, ◌∙◌, append_assoc, arith}
+-- Packets are read as they are spelled.
+use Rattle.std.proofs.Common.{◌≡◌, ℕ, ◌+◌, ◌^◌, ◌<◌, ◌≤◌, List, [], ◌∷◌, ◌++◌, length, Result, Ok, Err, refl, sym, ap, subst, ◌∙◌, append_assoc}
 use Rattle.std.specs.List.{flat_map, AllByRecursion}
-use Rattle.std.specs.Int.{w32, w64}
-use Rattle.obq_base.specs.declared.places.Kind.TheVariants as kind
-use Rattle.obq_base.specs.declared.places.ThreadId.{ThreadId}
-use Rattle.obq_wire.specs.declared.packets.Current.{Current}
-use Rattle.obq_wire.specs.declared.packets.Current.TheVariants as c
-use Rattle.obq_wire.specs.declared.packets.Operation.{Operation}
-use Rattle.obq_wire.specs.declared.packets.Operation.TheVariants as op
-use Rattle.obq_wire.specs.declared.packets.Outcome.{Outcome}
-use Rattle.obq_wire.specs.declared.packets.Outcome.TheVariants as o
+use Rattle.std.proofs.lemmas.List.{append-nil}
 use Rattle.obq_wire.specs.declared.packets.Packet.{Packet}
 use Rattle.obq_wire.specs.declared.packets.Packet.TheVariants as p
 use Rattle.obq_wire.specs.declared.packets.Reply.{Reply}
 use Rattle.obq_wire.specs.declared.packets.Request.{Request}
 use Rattle.obq_wire.specs.declared.packets.Wake.{Wake}
-use Rattle.obq_wire.specs.declared.tags.TheConstants.{AGAIN, ARRAY_ITEM, ARRAY_SET, ARRAY_SIZE, BROADCAST, CALL, COPY, ENGINE, EXPORT, GET, GIVE_UP, IMPORT, JOIN, LINE, PUT, REDIRECT, SET, SIGNAL, VAR_GET, VAR_SET}
-use Rattle.obq_wire.specs.declared.values.TableEntry.{TableEntry}
-use Rattle.obq_wire.specs.declared.values.TableMember.{TableMember}
-use Rattle.obq_wire.specs.Spelling.{u16, u32, u64, thread, closure, operation, outcome, current, head, list, entry, spelling, before_entries, behind_entries}
-use Rattle.obq_wire.specs.Fits.{IsThread, IsClosure, IsOperation, IsOutcome, IsCurrent, IsHead, IsTable, HasFields}
-use Rattle.obq_wire.specs.Reading.{◌>>=◌, number_at, below, in_range, procedure_at, operation_arms, operation_at, outcome_arms, outcome_at, current_arms, current_at, depth_at, Head, thread_at, head_at, table_at, request_at, reply_at, wake_at, packet_arms, packet_at, closure_at}
-use Rattle.obq_wire.proofs.Exact.{IsBytes, bind_ok, ok_is, Takes, Takes-then, Exact, ArmTakes, tagged_takes, one_again, two_again, three_again, exact_two, arm_none, arm_one, arm_two, arm_three}
-use Rattle.obq_wire.proofs.Fields.{exact_u16, exact_u32, exact_u64, exact_below}
-use Rattle.obq_wire.proofs.Lists.{exact_list}
-use Rattle.obq_wire.proofs.ExactParts.{exact_text, exact_name, exact_integer, exact_truth, exact_flags, exact_thread, exact_reference, exact_cell, exact_closure}
-use Rattle.obq_wire.proofs.ExactValues.{exact_value, exact_values, exact_body, exact_field, exact_table}
+use Rattle.obq_wire.specs.Spelling.{u16, u32, thread, operation, outcome, current, head, list, entry, spelling}
+use Rattle.obq_wire.specs.Fits.{HasFields}
+use Rattle.obq_wire.specs.Reading.{◌>>=◌, operation_at, outcome_at, current_at, depth_at, head_at, table_at, request_at, reply_at, wake_at, packet_arms, packet_at}
+use Rattle.obq_wire.proofs.Exact.{IsBytes, bind_ok, ok_is, Takes, Takes-then, Exact, ArmTakes, tagged_takes, one_again, exact_two, arm_one}
+use Rattle.obq_wire.proofs.Fields.{exact_u32}
+use Rattle.obq_wire.proofs.ExactParts.{exact_thread}
+use Rattle.obq_wire.proofs.ExactValues.{exact_table}
+use Rattle.obq_wire.proofs.ExactOperations.{exact_operation, exact_outcome, exact_current, exact_depth, exact_head}
 
-module _ (table : List TableEntry) where
-  exact_procedure : Exact (procedure_at table) (λ m. 5 ∷ closure m) (IsClosure table)
-  unfolding procedure_at
-  exact_procedure = record {
-    takes = tagged_takes (λ m. 5 ∷ closure m) (IsClosure table) ((5, closure_at table) ∷ []) (only_arm, tt);
-    again = λ m rest fits. (exact_closure table).again m rest fits;
-  }
-    where
-      only_arm : ArmTakes (λ (m : TableMember). 5 ∷ closure m) (IsClosure table) (5, closure_at table)
-      only_arm bytes m rest fits e =
-          let t = (exact_closure table).takes bytes m rest fits e in
-          (record { parts = ap (λ (x : List ℕ). 5 ∷ x) t.0.parts; rest_fits = t.0.rest_fits }, t.1)
+abbrev head_of_request : Request → List ℕ
+head_of_request r = head r.thread r.call r.used r.made
 
-  operation_arms_take : AllByRecursion (ArmTakes operation (IsOperation table)) (operation_arms table)
-  operation_arms_take =
-      (arm_two operation (IsOperation table) (exact_cell kind.Object) exact_name GET op.Get (λ _ _. refl) (λ _ _ f g. (f, g)),
-      (arm_three operation (IsOperation table) (exact_cell kind.Object) exact_name (exact_values table) CALL op.Call (λ _ _ _. refl) (λ _ _ _ f g h. (f, (g, h))),
-      (arm_three operation (IsOperation table) (exact_cell kind.Object) exact_name (exact_body table) SET op.Set (λ _ _ _. refl) (λ _ _ _ f g h. (f, (g, h))),
-      (arm_one operation (IsOperation table) (exact_cell kind.Object) COPY op.Copy (λ _. refl) (λ _ f. f),
-      (arm_two operation (IsOperation table) (exact_cell kind.Object) (exact_cell kind.Object) REDIRECT op.Redirect (λ _ _. refl) (λ _ _ f g. (f, g)),
-      (arm_two operation (IsOperation table) (exact_cell kind.Array) exact_integer ARRAY_ITEM op.ArrayItem (λ _ _. refl) (λ _ _ f g. (f, g)),
-      (arm_one operation (IsOperation table) (exact_cell kind.Array) ARRAY_SIZE op.ArraySize (λ _. refl) (λ _ f. f),
-      (arm_three operation (IsOperation table) (exact_cell kind.Array) exact_integer (exact_value table) ARRAY_SET op.ArraySet (λ _ _ _. refl) (λ _ _ _ f g h. (f, (g, h))),
-      (arm_one operation (IsOperation table) (exact_cell kind.Variable) VAR_GET op.VarGet (λ _. refl) (λ _ f. f),
-      (arm_two operation (IsOperation table) (exact_cell kind.Variable) (exact_value table) VAR_SET op.VarSet (λ _ _. refl) (λ _ _ f g. (f, g)),
-      (arm_two operation (IsOperation table) (exact_cell kind.Writer) exact_text PUT op.Put (λ _ _. refl) (λ _ _ f g. (f, g)),
-      (arm_one operation (IsOperation table) exact_thread JOIN op.Join (λ _. refl) (λ _ f. f),
-      (arm_two operation (IsOperation table) (exact_cell kind.Condition) (exact_cell kind.Object) LINE op.Line (λ _ _. refl) (λ _ _ f g. (f, g)),
-      (arm_one operation (IsOperation table) (exact_cell kind.Object) GIVE_UP op.GiveUp (λ _. refl) (λ _ f. f),
-      (arm_two operation (IsOperation table) (exact_cell kind.Object) (exact_cell kind.Condition) AGAIN op.Again (λ _ _. refl) (λ _ _ f g. (f, g)),
-      (arm_one operation (IsOperation table) (exact_cell kind.Condition) SIGNAL op.Signal (λ _. refl) (λ _ f. f),
-      (arm_one operation (IsOperation table) (exact_cell kind.Condition) BROADCAST op.Broadcast (λ _. refl) (λ _ f. f),
-      (arm_two operation (IsOperation table) exact_text (exact_value table) EXPORT op.Export (λ _ _. refl) (λ _ _ f g. (f, g)),
-      (arm_two operation (IsOperation table) exact_text exact_truth IMPORT op.Import (λ _ _. refl) (λ _ _ f g. f),
-      (arm_two operation (IsOperation table) (exact_cell kind.Engine) exact_procedure ENGINE op.Engine (λ _ _. refl) (λ _ _ f g. (f, g)),
-      tt))))))))))))))))))))
+abbrev request : Request → List ℕ
+request r = head_of_request r ++ (u16 r.depth ++ (current r.current ++ (list entry r.table ++ operation r.operation)))
 
-  operation_again : (x : Operation) (rest : List ℕ) → IsOperation table x → operation_at table (operation x ++ rest) ≡ Ok (x, rest)
-  unfolding operation_at
-  operation_again (op.Get object name) rest fits = two_again (exact_cell kind.Object) exact_name op.Get object name rest fits.0 fits.1
-  operation_again (op.Call object name arguments) rest fits = three_again (exact_cell kind.Object) exact_name (exact_values table) op.Call object name arguments rest fits.0 fits.1.0 fits.1.1
-  operation_again (op.Set object name new) rest fits = three_again (exact_cell kind.Object) exact_name (exact_body table) op.Set object name new rest fits.0 fits.1.0 fits.1.1
-  operation_again (op.Copy object) rest fits = one_again (exact_cell kind.Object) op.Copy object rest fits
-  operation_again (op.Redirect object target) rest fits = two_again (exact_cell kind.Object) (exact_cell kind.Object) op.Redirect object target rest fits.0 fits.1
-  operation_again (op.ArrayItem array index) rest fits = two_again (exact_cell kind.Array) exact_integer op.ArrayItem array index rest fits.0 fits.1
-  operation_again (op.ArraySize array) rest fits = one_again (exact_cell kind.Array) op.ArraySize array rest fits
-  operation_again (op.ArraySet array index new) rest fits = three_again (exact_cell kind.Array) exact_integer (exact_value table) op.ArraySet array index new rest fits.0 fits.1.0 fits.1.1
-  operation_again (op.VarGet variable) rest fits = one_again (exact_cell kind.Variable) op.VarGet variable rest fits
-  operation_again (op.VarSet variable new) rest fits = two_again (exact_cell kind.Variable) (exact_value table) op.VarSet variable new rest fits.0 fits.1
-  operation_again (op.Put writer text) rest fits = two_again (exact_cell kind.Writer) exact_text op.Put writer text rest fits.0 fits.1
-  operation_again (op.Join t) rest fits = one_again exact_thread op.Join t rest fits
-  operation_again (op.Line condition object) rest fits = two_again (exact_cell kind.Condition) (exact_cell kind.Object) op.Line condition object rest fits.0 fits.1
-  operation_again (op.GiveUp object) rest fits = one_again (exact_cell kind.Object) op.GiveUp object rest fits
-  operation_again (op.Again object condition) rest fits = two_again (exact_cell kind.Object) (exact_cell kind.Condition) op.Again object condition rest fits.0 fits.1
-  operation_again (op.Signal condition) rest fits = one_again (exact_cell kind.Condition) op.Signal condition rest fits
-  operation_again (op.Broadcast condition) rest fits = one_again (exact_cell kind.Condition) op.Broadcast condition rest fits
-  operation_again (op.Export name new) rest fits = two_again exact_text (exact_value table) op.Export name new rest fits.0 fits.1
-  operation_again (op.Import name engine) rest fits = two_again exact_text exact_truth op.Import name engine rest fits tt
-  operation_again (op.Engine engine procedure) rest fits = two_again (exact_cell kind.Engine) exact_procedure op.Engine engine procedure rest fits.0 fits.1
+abbrev head_of_reply : Reply → List ℕ
+head_of_reply r = head r.thread r.call r.used r.made
 
-  exact_operation : Exact (operation_at table) operation (IsOperation table)
-  unfolding operation_at
-  exact_operation = record { takes = tagged_takes operation (IsOperation table) (operation_arms table) operation_arms_take; again = operation_again }
+abbrev reply : Reply → List ℕ
+reply r = head_of_reply r ++ (list entry r.table ++ outcome r.outcome)
 
-  outcome_arms_take : AllByRecursion (ArmTakes outcome (IsOutcome table)) (outcome_arms table)
-  outcome_arms_take =
-      (arm_one outcome (IsOutcome table) (exact_value table) 0 o.Value (λ _. refl) (λ _ f. f),
-      (arm_one outcome (IsOutcome table) exact_text 1 o.Raised (λ _. refl) (λ _ f. f),
-      (arm_none outcome (IsOutcome table) 2 o.Exit refl tt,
-      (arm_two outcome (IsOutcome table) exact_reference exact_name 3 o.Hop (λ _ _. refl) (λ _ _ f g. (f, g)),
-      (arm_two outcome (IsOutcome table) exact_flags (exact_list (exact_field table)) 4 o.Object (λ _ _. refl) (λ _ _ f g. g),
-      tt)))))
+-- the parts of a request and of a reply, grouped as a reader takes them
+regroup : (h d c n es o : List ℕ) → ((h ++ (d ++ (c ++ n))) ++ (es ++ o)) ≡ h ++ (d ++ (c ++ ((n ++ es) ++ o)))
+regroup h d c n es o = simp append_assoc
 
-  outcome_again : (x : Outcome) (rest : List ℕ) → IsOutcome table x → outcome_at table (outcome x ++ rest) ≡ Ok (x, rest)
-  unfolding outcome_at
-  outcome_again (o.Value x) rest fits = one_again (exact_value table) o.Value x rest fits
-  outcome_again (o.Raised text) rest fits = one_again exact_text o.Raised text rest fits
-  outcome_again o.Exit rest fits = refl
-  outcome_again (o.Hop to name) rest fits = two_again exact_reference exact_name o.Hop to name rest fits.0 fits.1
-  outcome_again (o.Object flags fields) rest fits = two_again exact_flags (exact_list (exact_field table)) o.Object flags fields rest tt fits
+regroup_reply : (h n es o : List ℕ) → ((h ++ n) ++ (es ++ o)) ≡ h ++ ((n ++ es) ++ o)
+regroup_reply h n es o = simp append_assoc
 
-  exact_outcome : Exact (outcome_at table) outcome (IsOutcome table)
-  unfolding outcome_at
-  exact_outcome = record { takes = tagged_takes outcome (IsOutcome table) (outcome_arms table) outcome_arms_take; again = outcome_again }
+apart_5 : (h d c t o rest : List ℕ) → (h ++ (d ++ (c ++ (t ++ o)))) ++ rest ≡ h ++ (d ++ (c ++ (t ++ (o ++ rest))))
+apart_5 h d c t o rest = simp append_assoc
 
-current_arms_take : AllByRecursion (ArmTakes current IsCurrent) current_arms
-current_arms_take =
-    (arm_none current IsCurrent 0 c.Nothing refl tt,
-    (arm_one current IsCurrent (exact_cell kind.Object) 1 c.Plain (λ _. refl) (λ _ f. f),
-    (arm_one current IsCurrent (exact_cell kind.Object) 2 c.Held (λ _. refl) (λ _ f. f),
+apart_3 : (h t o rest : List ℕ) → (h ++ (t ++ o)) ++ rest ≡ h ++ (t ++ (o ++ rest))
+apart_3 h t o rest = simp append_assoc
+
+exact_request : Exact request_at request (λ r. HasFields (p.Request r))
+unfolding request_at
+exact_request = record {
+  takes = λ bytes r rest fits e.
+      let h = bind_ok (head_at bytes) (λ h. depth_at h.1 >>= λ d. current_at d.1 >>= λ c. table_at c.1 >>= λ t. operation_at t.0 t.1 >>= λ o. Ok (record { thread = h.0.0; call = h.0.1.0; used = h.0.1.1.0; made = h.0.1.1.1; depth = d.0; current = c.0; table = t.0; operation = o.0 }, o.1)) (r, rest) e in
+      let d = bind_ok (depth_at h.0.1) (λ d. current_at d.1 >>= λ c. table_at c.1 >>= λ t. operation_at t.0 t.1 >>= λ o. Ok (record { thread = h.0.0.0; call = h.0.0.1.0; used = h.0.0.1.1.0; made = h.0.0.1.1.1; depth = d.0; current = c.0; table = t.0; operation = o.0 }, o.1)) (r, rest) h.2 in
+      let c = bind_ok (current_at d.0.1) (λ c. table_at c.1 >>= λ t. operation_at t.0 t.1 >>= λ o. Ok (record { thread = h.0.0.0; call = h.0.0.1.0; used = h.0.0.1.1.0; made = h.0.0.1.1.1; depth = d.0.0; current = c.0; table = t.0; operation = o.0 }, o.1)) (r, rest) d.2 in
+      let t = bind_ok (table_at c.0.1) (λ t. operation_at t.0 t.1 >>= λ o. Ok (record { thread = h.0.0.0; call = h.0.0.1.0; used = h.0.0.1.1.0; made = h.0.0.1.1.1; depth = d.0.0; current = c.0.0; table = t.0; operation = o.0 }, o.1)) (r, rest) c.2 in
+      let o = bind_ok (operation_at t.0.0 t.0.1) (λ o. Ok (record { thread = h.0.0.0; call = h.0.0.1.0; used = h.0.0.1.1.0; made = h.0.0.1.1.1; depth = d.0.0; current = c.0.0; table = t.0.0; operation = o.0 }, o.1)) (r, rest) t.2 in
+      let ht = exact_head.takes bytes h.0.0 h.0.1 fits h.1 in
+      let dt = exact_depth.takes h.0.1 d.0.0 d.0.1 ht.0.rest_fits d.1 in
+      let ct = exact_current.takes d.0.1 c.0.0 c.0.1 dt.0.rest_fits c.1 in
+      let tt1 = exact_table.takes c.0.1 t.0.0 t.0.1 ct.0.rest_fits t.1 in
+      let ot = (exact_operation t.0.0).takes t.0.1 o.0.0 o.0.1 tt1.0.rest_fits o.1 in
+      subst (λ (z : Request × List ℕ). Takes bytes (request z.0) z.1 × HasFields (p.Request z.0))
+          (ok_is (record { thread = h.0.0.0; call = h.0.0.1.0; used = h.0.0.1.1.0; made = h.0.0.1.1.1; depth = d.0.0; current = c.0.0; table = t.0.0; operation = o.0.0 }, o.0.1) (r, rest) o.2)
+          (Takes-then ht.0 (Takes-then dt.0 (Takes-then ct.0 (Takes-then tt1.0 ot.0))), (ht.1, (dt.1, (ct.1, (tt1.1, ot.1)))));
+  again = λ r rest fits.
+      ap request_at (apart_5 (head_of_request r) (u16 r.depth) (current r.current) (list entry r.table) (operation r.operation) rest) ∙
+          rw (exact_head.again (r.thread, (r.call, (r.used, r.made))) (u16 r.depth ++ (current r.current ++ (list entry r.table ++ (operation r.operation ++ rest)))) fits.0,
+              exact_depth.again r.depth (current r.current ++ (list entry r.table ++ (operation r.operation ++ rest))) fits.1.0,
+              exact_current.again r.current (list entry r.table ++ (operation r.operation ++ rest)) fits.1.1.0,
+              exact_table.again r.table (operation r.operation ++ rest) fits.1.1.1.0,
+              (exact_operation r.table).again r.operation rest fits.1.1.1.1) refl;
+}
+
+exact_reply : Exact reply_at reply (λ r. HasFields (p.Reply r))
+unfolding reply_at
+exact_reply = record {
+  takes = λ bytes r rest fits e.
+      let h = bind_ok (head_at bytes) (λ h. table_at h.1 >>= λ t. outcome_at t.0 t.1 >>= λ o. Ok (record { thread = h.0.0; call = h.0.1.0; used = h.0.1.1.0; made = h.0.1.1.1; table = t.0; outcome = o.0 }, o.1)) (r, rest) e in
+      let t = bind_ok (table_at h.0.1) (λ t. outcome_at t.0 t.1 >>= λ o. Ok (record { thread = h.0.0.0; call = h.0.0.1.0; used = h.0.0.1.1.0; made = h.0.0.1.1.1; table = t.0; outcome = o.0 }, o.1)) (r, rest) h.2 in
+      let o = bind_ok (outcome_at t.0.0 t.0.1) (λ o. Ok (record { thread = h.0.0.0; call = h.0.0.1.0; used = h.0.0.1.1.0; made = h.0.0.1.1.1; table = t.0.0; outcome = o.0 }, o.1)) (r, rest) t.2 in
+      let ht = exact_head.takes bytes h.0.0 h.0.1 fits h.1 in
+      let tt1 = exact_table.takes h.0.1 t.0.0 t.0.1 ht.0.rest_fits t.1 in
+      let ot = (exact_outcome t.0.0).takes t.0.1 o.0.0 o.0.1 tt1.0.rest_fits o.1 in
+      subst (λ (z : Reply × List ℕ). Takes bytes (reply z.0) z.1 × HasFields (p.Reply z.0))
+          (ok_is (record { thread = h.0.0.0; call = h.0.0.1.0; used = h.0.0.1.1.0; made = h.0.0.1.1.1; table = t.0.0; outcome = o.0.0 }, o.0.1) (r, rest) o.2)
+          (Takes-then ht.0 (Takes-then tt1.0 ot.0), (ht.1, (tt1.1, ot.1)));
+  again = λ r rest fits.
+      ap reply_at (apart_3 (head_of_reply r) (list entry r.table) (outcome r.outcome) rest) ∙
+          rw (exact_head.again (r.thread, (r.call, (r.used, r.made))) (list entry r.table ++ (outcome r.outcome ++ rest)) fits.0,
+              exact_table.again r.table (outcome r.outcome ++ rest) fits.1.0,
+              (exact_outcome r.table).again r.outcome rest fits.1.1) refl;
+}
+
+exact_wake : Exact wake_at (λ w. thread w.thread ++ u32 w.object) (λ w. HasFields (p.Wake w))
+unfolding wake_at
+exact_wake = exact_two exact_thread exact_u32 (λ thread object. record { thread = thread; object = object }) (λ (w : Wake). w.thread) (λ w. w.object) (λ _. refl) (λ _ _. refl) (λ _ _. refl)
+
+spelled_request : (r : Request) → spelling (p.Request r) ≡ 1 ∷ request r
+spelled_request r = ap (λ (x : List ℕ). 1 ∷ x) (regroup (head_of_request r) (u16 r.depth) (current r.current) (u32 (length r.table)) (flat_map entry r.table) (operation r.operation))
+
+spelled_reply : (r : Reply) → spelling (p.Reply r) ≡ 2 ∷ reply r
+spelled_reply r = ap (λ (x : List ℕ). 2 ∷ x) (regroup_reply (head_of_reply r) (u32 (length r.table)) (flat_map entry r.table) (outcome r.outcome))
+
+spelled_wake : (w : Wake) → spelling (p.Wake w) ≡ 3 ∷ (thread w.thread ++ u32 w.object)
+spelled_wake w = append-nil (3 ∷ (thread w.thread ++ u32 w.object))
+
+packet_arms_take : AllByRecursion (ArmTakes spelling HasFields) packet_arms
+packet_arms_take =
+    (arm_one spelling HasFields exact_request 1 p.Request spelled_request (λ _ f. f),
+    (arm_one spelling HasFields exact_reply 2 p.Reply spelled_reply (λ _ f. f),
+    (arm_one spelling HasFields exact_wake 3 p.Wake spelled_wake (λ _ f. f),
     tt)))
 
-current_again : (x : Current) (rest : List ℕ) → IsCurrent x → current_at (current x ++ rest) ≡ Ok (x, rest)
-unfolding current_at
-current_again c.Nothing rest fits = refl
-current_again (c.Plain object) rest fits = one_again (exact_cell kind.Object) c.Plain object rest fits
-current_again (c.Held object) rest fits = one_again (exact_cell kind.Object) c.Held object rest fits
+packet_again : (x : Packet) (rest : List ℕ) → HasFields x → packet_at (spelling x ++ rest) ≡ Ok (x, rest)
+unfolding packet_at
+packet_again (p.Request r) rest fits = ap (λ (x : List ℕ). packet_at (x ++ rest)) (spelled_request r) ∙ one_again exact_request p.Request r rest fits
+packet_again (p.Reply r) rest fits = ap (λ (x : List ℕ). packet_at (x ++ rest)) (spelled_reply r) ∙ one_again exact_reply p.Reply r rest fits
+packet_again (p.Wake w) rest fits = ap (λ (x : List ℕ). packet_at (x ++ rest)) (spelled_wake w) ∙ one_again exact_wake p.Wake w rest fits
 
-exact_current : Exact current_at current IsCurrent
-unfolding current_at
-exact_current = record { takes = tagged_takes current IsCurrent current_arms current_arms_take; again = current_again }
-
-exact_depth : Exact depth_at u16 (λ n. n ≤ 1000)
-unfolding depth_at
-exact_depth =
-    let parts = exact_below exact_u16 1001 in
-    record {
-      takes = λ bytes n rest fits e. let t = parts.takes bytes n rest fits e in (t.0, omega (arith, t.1.0));
-      again = λ n rest le. parts.again n rest (omega (arith, le), omega (arith, le));
-    }
-
-head_of : Head → List ℕ
-head_of h = head h.0 h.1.0 h.1.1.0 h.1.1.1
-
-exact_head : Exact head_at (λ h. head h.0 h.1.0 h.1.1.0 h.1.1.1) (λ h. IsHead h.0 h.1.0 h.1.1.0 h.1.1.1)
-unfolding head_at
-exact_head = record {
-  takes = λ bytes h rest fits e.
-      let t = bind_ok (thread_at bytes) (λ t. number_at w64 t.1 >>= λ c. number_at w32 c.1 >>= λ u. number_at w64 u.1 >>= λ m. Ok ((t.0, (c.0, (u.0, m.0))), m.1)) (h, rest) e in
-      let c = bind_ok (number_at w64 t.0.1) (λ c. number_at w32 c.1 >>= λ u. number_at w64 u.1 >>= λ m. Ok ((t.0.0, (c.0, (u.0, m.0))), m.1)) (h, rest) t.2 in
-      let u = bind_ok (number_at w32 c.0.1) (λ u. number_at w64 u.1 >>= λ m. Ok ((t.0.0, (c.0.0, (u.0, m.0))), m.1)) (h, rest) c.2 in
-      let m = bind_ok (number_at w64 u.0.1) (λ m. Ok ((t.0.0, (c.0.0, (u.0.0, m.0))), m.1)) (h, rest) u.2 in
-      let tt1 = exact_thread.takes bytes t.0.0 t.0.1 fits t.1 in
-      let ct = exact_u64.takes t.0.1 c.0.0 c.0.1 tt1.0.rest_fits c.1 in
-      let ut = exact_u32.takes c.0.1 u.0.0 u.0.1 ct.0.rest_fits u.1 in
-      let mt = exact_u64.takes u.0.1 m.0.0 m.0.1 ut.0.rest_fits m.1 in
-      subst (λ (z : Head × List ℕ). Takes bytes (head z.0.0 z.0.1.0 z.0.1.1.0 z.0.1.1.1) z.1 × IsHead z.0.0 z.0.1.0 z.0.1.1.0 z.0.1.1.1) (ok_is ((t.0.0, (c.0.0, (u.0.0, m.0.0))), m.0.1) (h, rest) m.2)
-          (Takes-then tt1.0 (Takes-then ct.0 (Takes-then ut.0 mt.0)), (tt1.1, (ct.1, (ut.1, mt.1))));
-  again = λ h rest fits.
-      let grouped : head h.0 h.1.0 h.1.1.0 h.1.1.1 ++ rest ≡ thread h.0 ++ (u64 h.1.0 ++ (u32 h.1.1.0 ++ (u64 h.1.1.1 ++ rest))) =
-              append_assoc (thread h.0) (u64 h.1.0 ++ (u32 h.1.1.0 ++ u64 h.1.1.1)) rest
-              ∙ ap (λ (x : List ℕ). thread h.0 ++ x) (append_assoc (u64 h.1.0) (u32 h.1.1.0 ++ u64 h.1.1.1) rest
-                  ∙ ap (λ (x : List ℕ). u64 h.1.0 ++ x) (append_assoc (u32 h.1.1.0) (u64 h.1.1.1) rest)) in
-      ap head_at grouped ∙ rw (exact_thread.again h.0 (u64 h.1.0 ++ (u32 h.1.1.0 ++ (u64 h.1.1.1 ++ rest))) fits.0,
-          exact_u64.again h.1.0 (u32 h.1.1.0 ++ (u64 h.1.1.1 ++ rest)) fits.1.0, exact_u32.again h.1.1.0 (u64 h.1.1.1 ++ rest) fits.1.1.0, exact_u64.again h.1.1.1 rest fits.1.1.1) refl;
-}
+pub exact_packet : Exact packet_at spelling HasFields
+unfolding packet_at
+exact_packet = record { takes = tagged_takes spelling HasFields packet_arms packet_arms_take; again = packet_again }

@@ -4,5 +4,7 @@ pub mod Fields
 pub mod Lists
 pub mod ExactParts
 pub mod ExactValues
+pub mod ExactOperations
 pub mod ExactPackets
+pub mod FrameLaws
 pub mod BehindTags
