@@ -72,12 +72,15 @@ module _ (w : Width) (limit : ℕ) (wide : IsWide w limit) where
   exact_number = record { takes = number_takes; again = number_again }
 
 pub exact_u16 : Exact (number_at w16) u16 (λ n. n < 2 ^ 16)
+unfolding u16
 exact_u16 = exact_number w16 (2 ^ 16) wide16
 
 pub exact_u32 : Exact (number_at w32) u32 (λ n. n < 2 ^ 32)
+unfolding u32
 exact_u32 = exact_number w32 (2 ^ 32) wide32
 
 pub exact_u64 : Exact (number_at w64) u64 (λ n. n < 2 ^ 64)
+unfolding u64
 exact_u64 = exact_number w64 (2 ^ 64) wide64
 
 below_is : (bound n m : ℕ) → below bound n ≡ Some m → (n ≡ m) × (m < bound)

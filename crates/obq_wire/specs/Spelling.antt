@@ -28,13 +28,13 @@ use Rattle.obq_wire.specs.declared.values.WireField.{WireField}
 use Rattle.obq_wire.specs.declared.values.WireValue.{WireValue}
 use Rattle.obq_wire.specs.declared.values.WireValue.TheVariants as v
 
-abbrev pub u16 : ℕ → List ℕ
+unfoldable pub u16 : ℕ → List ℕ
 u16 n = to_be_bytes w16 n
 
-abbrev pub u32 : ℕ → List ℕ
+unfoldable pub u32 : ℕ → List ℕ
 u32 n = to_be_bytes w32 n
 
-abbrev pub u64 : ℕ → List ℕ
+unfoldable pub u64 : ℕ → List ℕ
 u64 n = to_be_bytes w64 n
 
 abbrev pub integer : ℤ → List ℕ

@@ -8,6 +8,8 @@ mod read_values;
 mod refusal;
 mod tags;
 mod values;
+mod write_packets;
+mod write_values;
 
 pub use packets::{Current, Operation, Outcome, Packet, Reply, Request, Wake};
 pub use refusal::WireRefused;
