@@ -57,13 +57,17 @@ packet_needs (p.Request r) = operation_needs r.operation
 packet_needs (p.Reply r) = outcome_needs r.outcome
 packet_needs (p.Wake w) = []
 
-abbrev pub needs_of : Option TableEntry → List ℕ
-needs_of None = []
-needs_of (Some e) = needs e.captured
+abbrev pub captured_of : Option TableEntry → List WireValue
+captured_of None = []
+captured_of (Some e) = e.captured
 
--- the indices that the entry at this index names
+-- the values that the entry at this index captured
+abbrev pub captured_at : List TableEntry → ℕ → List WireValue
+captured_at table i = captured_of (slice_get table i)
+
+-- the indices that it names
 abbrev pub entry_needs : List TableEntry → ℕ → List ℕ
-entry_needs table i = needs_of (slice_get table i)
+entry_needs table i = needs (captured_at table i)
 
 abbrev pub has_number : List ℕ → ℕ → Bool
 has_number ns n = list_any (λ m. m == n) ns

@@ -1,6 +1,7 @@
 //! Frames: the bytes that sites send each other, and what they say.
 #![tactic(auto)]
 
+mod order;
 mod packets;
 mod parts;
 mod read_packets;
