@@ -7,4 +7,5 @@ pub mod ExactValues
 pub mod ExactOperations
 pub mod ExactPackets
 pub mod FrameLaws
+pub mod WalkLaws
 pub mod BehindTags

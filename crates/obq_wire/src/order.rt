@@ -1,9 +1,8 @@
 //! Whether the entries of a table stand in its one order. The walk keeps the entries that it began in a list of its own, since
 //! a table may nest as deep as it is long.
 
-ghost use Rattle.std.specs.Prelude.{◌≡◌, ◌<◌, ◌^◌, ◌++◌, ◌∷◌, [], fold, length, OnOk, IfOk, map};
+ghost use Rattle.std.specs.Prelude.{◌≡◌, ◌<◌, ◌++◌, length, All, OnOk, IfOk};
 ghost use Rattle.std.specs.List.{AllByRecursion, flat_map};
-ghost use Rattle.std.specs.Option.{option_to_list};
 ghost use Rattle.obq_wire.specs.Order.{body_needs, captured_at, needs, operation_needs, order, outcome_needs, packet_needs, placed, value_needs};
 ghost use Rattle.obq_wire.specs.Walk.{IsAgreement, IsBegun, IsNext, NeedsEarlier, Reaches, Steps, numbers_below};
 
@@ -16,7 +15,7 @@ use std::alloc::Global;
 /// An entry that was begun, and the place among its captured values of the next to be looked at.
 #[derive(Clone, Copy)]
 struct Begun {
-    index: usize,
+    index: u32,
     next: usize,
 }
 
@@ -26,7 +25,7 @@ enum Next {
     Nothing,
     /// A value that isn't a closure.
     Other(Begun),
-    Index(usize, Begun),
+    Index(u32, Begun),
 }
 
 /// How far the needed indices are those that stand there: all of them, so many; or those below this one, and then another.
@@ -122,7 +121,7 @@ fn captured(table: &[TableEntry], index: usize) -> &[WireValue]
 fn next_of(table: &[TableEntry], begun: Begun) -> Next
     ensures { IsNext table.now begun result }
 {
-    let values = captured(table, begun.index);
+    let values = captured(table, begun.index as usize);
     if begun.next >= values.len() {
         return Next::Nothing;
     }
@@ -131,7 +130,7 @@ fn next_of(table: &[TableEntry], begun: Begun) -> Next
         next: begun.next + 1,
     };
     match &values[begun.next] {
-        WireValue::Clo(closure) => Next::Index(closure.index as usize, after),
+        WireValue::Clo(closure) => Next::Index(closure.index, after),
         _ => Next::Other(after),
     }
 }
@@ -147,12 +146,11 @@ fn step(
     requires earlier { NeedsEarlier table.now }
     requires begun { AllByRecursion (IsBegun table.now) begun.old.items }
     requires innermost { IsBegun table.now innermost }
-    requires count { count < 2 ^ 63 }
     ensures { IfOk result (λ n. Steps table.now begun.old.items innermost count begun.new.items n) }
 {
     match next_of(table, innermost) {
         Next::Nothing => {
-            if innermost.index != count {
+            if innermost.index as usize != count {
                 return Ok(None);
             }
             Ok(Some(count + 1))
@@ -163,10 +161,56 @@ fn step(
         }
         Next::Index(index, after) => {
             begun.push(after)?;
-            if index >= count {
+            if index as usize >= count {
                 begun.push(Begun { index, next: 0 })?;
             }
             Ok(Some(count))
         }
     }
+}
+
+/// Places an index that is needed behind the first `count`, with what it needs.
+fn climb(
+    alloc: Global,
+    table: &[TableEntry],
+    root: u32,
+    count: usize,
+) -> Result<Reached, NoMemory>
+    requires earlier { NeedsEarlier table.now }
+    requires root { root < length table.now }
+    ensures { IfOk result (λ r. Reaches (placed table.now (length table.now) (numbers_below count) root) r) }
+{
+    if (root as usize) < count {
+        return Ok(Reached::All(count));
+    }
+    let mut count = count;
+    let mut begun = Vec::new(alloc);
+    begun.push(Begun { index: root, next: 0 })?;
+    for _ in 0..u64::MAX {
+        let Some(innermost) = begun.pop() else {
+            return Ok(Reached::All(count));
+        };
+        match step(table, &mut begun, innermost, count)? {
+            Some(next) => count = next,
+            None => return Ok(Reached::Other(count)),
+        }
+    }
+    // So many steps are never taken.
+    Err(NoMemory)
+}
+
+/// The first place at which another index is needed than the place, or none.
+fn agreement(alloc: Global, table: &[TableEntry], roots: &[u32]) -> Result<usize, NoMemory>
+    requires earlier { NeedsEarlier table.now }
+    requires roots { All (λ i. i < length table.now) roots.now }
+    ensures { IfOk result (λ n. IsAgreement (order table.now roots.now) n) }
+{
+    let mut count = 0;
+    for root in roots {
+        match climb(alloc, table, *root, count)? {
+            Reached::All(next) => count = next,
+            Reached::Other(next) => return Ok(next),
+        }
+    }
+    Ok(count)
 }
