@@ -1,5 +1,6 @@
 -- A frame is read exactly where a packet is spelled so.
 use Rattle.std.proofs.Common.{◌≡◌, ℕ, suc, List, [], ◌∷◌, ◌++◌, length, Option, Some, None, Result, Ok, Err, refl, sym, ap, subst, ◌∙◌}
+use Rattle.std.specs.Prelude.{IfOk}
 use Rattle.std.proofs.lemmas.List.{append-nil}
 use Rattle.obq_wire.specs.declared.packets.Packet.{Packet}
 use Rattle.obq_wire.specs.declared.refusal.WireRefused.{WireRefused}
@@ -35,3 +36,24 @@ one_reading bytes p q s t =
   where
     ok : Packet → Result Packet ℕ
     ok x = Ok x
+
+whole_ok : (bytes : List ℕ) (r : Result (Packet × List ℕ) ℕ) (p : Packet) → whole bytes r ≡ Ok p → (r ≡ Ok (p, [])) × (misplaced p ≡ None)
+whole_ok bytes (Err left) p e = absurd cc
+whole_ok bytes (Ok (q, b ∷ rest)) p e = absurd cc
+whole_ok bytes (Ok (q, [])) p e = by (misplaced q) refl e
+  where
+    ok : Packet → Result (Packet × List ℕ) ℕ
+    ok x = Ok (x, [])
+    by : (o : Option ℕ) → misplaced q ≡ o → in_order q o ≡ Ok p → (ok q ≡ Ok (p, [])) × (misplaced p ≡ None)
+    by (Some k) is e = absurd cc
+    by None is e = let same : q ≡ p = cc in (ap ok same, subst (λ (x : Packet). misplaced x ≡ None) same is)
+
+pub frame_found : (bytes : List ℕ) (p : Packet) → IsBytes bytes → frame_at bytes ≡ Ok p → Spells bytes p
+unfolding frame_at
+frame_found bytes p fits e =
+    let w = whole_ok bytes (packet_at bytes) p e in
+    whole_takes bytes p fits w.0 w.1
+
+pub answer_found : (bytes : List ℕ) (r : Result Packet WireRefused) → IsBytes bytes → Answers r (frame_at bytes) → IfOk r (λ p. Spells bytes p)
+answer_found bytes (Ok p) fits e = frame_found bytes p fits e
+answer_found bytes (Err x) fits e = tt

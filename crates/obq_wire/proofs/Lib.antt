@@ -8,4 +8,6 @@ pub mod ExactOperations
 pub mod ExactPackets
 pub mod FrameLaws
 pub mod WalkLaws
+pub mod Earlier
+pub mod SeenLaws
 pub mod BehindTags

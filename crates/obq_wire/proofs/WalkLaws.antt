@@ -1,14 +1,14 @@
 -- Laws of the walk over a table.
 use Rattle.std.proofs.Common.{◌≡◌, ◌≢◌, ℕ, zero, suc, ◌+◌, ◌<◌, ◌≤◌, Bool, true, false, cond, ltb, eqb, List, [], ◌∷◌, ◌++◌, length, Option, Some, None, refl, sym, ap, subst, ◌∙◌, append_assoc, add-one, arith, inl, inr}
-use Rattle.std.specs.Prelude.{fold, drop, ◌==◌}
+use Rattle.std.specs.Prelude.{fold, drop, ◌==◌, slice_get}
 use Rattle.std.specs.List.{AllByRecursion, list_any}
 use Rattle.std.proofs.lemmas.Bool.{cases_lt, eqb-true, eq-eqb, eqb-false}
-use Rattle.std.proofs.lemmas.List.{append-nil}
+use Rattle.std.proofs.lemmas.List.{append-nil, length-append}
 use Rattle.std.proofs.lemmas.List.Folds.{list_any-append}
 use Rattle.obq_wire.specs.declared.order.Begun.{Begun}
 use Rattle.obq_wire.specs.declared.values.TableEntry.{TableEntry}
-use Rattle.obq_wire.specs.Order.{entry_needs, has_number, placed}
-use Rattle.obq_wire.specs.Walk.{numbers_below, NeedsEarlier, still_needs, IsBegun, done, all_done, HasOther}
+use Rattle.obq_wire.specs.Order.{entry_needs, has_number, is_needed_there, placed}
+use Rattle.obq_wire.specs.Walk.{numbers_below, NeedsEarlier, still_needs, IsBegun, done, all_done, HasOther, IsAgreement}
 
 by_cond : {X : Type 0} (P : X → Type 0) (t : Bool) (x y : X) → P x → P y → P (cond t x y)
 by_cond P true x y p q = p
@@ -74,7 +74,7 @@ module _ (table : List TableEntry) where
       at_bound lower true e = rw e (ap (λ (b : ℕ). cond (has_number xs i) xs (fold (placed table b) xs (entry_needs table i) ++ i ∷ [])) (sym (eqb-true i bound e)))
       at_bound lower false e = rw e (lower (omega (arith, lt, eqb-false i bound e)))
 
-eqb_apart : (m n : ℕ) → m ≢ n → eqb m n ≡ false
+pub eqb_apart : (m n : ℕ) → m ≢ n → eqb m n ≡ false
 eqb_apart m n ne = by (eqb m n) refl
   where
     by : (t : Bool) → eqb m n ≡ t → eqb m n ≡ false
@@ -166,3 +166,63 @@ module _ (table : List TableEntry) (before : List Begun) (b : Begun) (count : �
   begun_next after i same e fits =
       let both : AllByRecursion (λ j. j < b.index) (i ∷ still_needs table after) = subst (λ (is : List ℕ). AllByRecursion (λ j. j < b.index) is) e fits in
       (both.0, subst (λ (k : ℕ). AllByRecursion (λ j. j < k) (still_needs table after)) (sym same) both.1)
+
+-- ---- the walk of one index that is needed
+
+module _ (table : List TableEntry) (count root : ℕ) (within : root < length table) where
+  pub root_had : root < count → placed table (length table) (numbers_below count) root ≡ numbers_below count
+  root_had had = placed_at table (length table) (numbers_below count) root within ∙ rw (has_below count root had) refl
+
+  pub root_new : count ≤ root → all_done table (record { index = root; next = 0 } ∷ []) (numbers_below count) ≡ placed table (length table) (numbers_below count) root
+  root_new lacks = sym (placed_at table (length table) (numbers_below count) root within ∙ rw (lacks_from count root lacks) refl)
+
+pub all_last : {X : Type 0} (P : X → Type 0) (xs : List X) (x : X) → AllByRecursion P (xs ++ x ∷ []) → P x
+all_last P [] x all = all.0
+all_last P (y ∷ xs) x all = all_last P xs x all.1
+
+pub all_front : {X : Type 0} (P : X → Type 0) (xs : List X) (x : X) → AllByRecursion P (xs ++ x ∷ []) → AllByRecursion P xs
+all_front P [] x all = tt
+all_front P (y ∷ xs) x all = (all.0, all_front P xs x all.1)
+
+-- ---- where the indices are those that are due
+
+length_below : (n : ℕ) → length (numbers_below n) ≡ n
+length_below zero = refl
+length_below (suc n) = omega (arith, length_below n, length-append (numbers_below n) (n ∷ []))
+
+get_behind : (xs : List ℕ) (x : ℕ) (more : List ℕ) → slice_get (xs ++ x ∷ more) (length xs) ≡ Some x
+get_behind [] x more = refl
+get_behind (y ∷ xs) x more = get_behind xs x more
+
+get_past : (xs : List ℕ) → slice_get xs (length xs) ≡ None
+get_past [] = refl
+get_past (x ∷ xs) = get_past xs
+
+get_there : (n i : ℕ) (more : List ℕ) → slice_get (numbers_below n ++ i ∷ more) n ≡ Some i
+get_there n i more = subst (λ (k : ℕ). slice_get (numbers_below n ++ i ∷ more) k ≡ Some i) (length_below n) (get_behind (numbers_below n) i more)
+
+get_below : (n k : ℕ) (more : List ℕ) → k < n → slice_get (numbers_below n ++ more) k ≡ Some k
+get_below zero k more lt = absurd (omega (arith, lt))
+get_below (suc n) k more lt =
+    ap (λ (xs : List ℕ). slice_get xs k) (append_assoc (numbers_below n) (n ∷ []) more) ∙
+        elim (cases_lt k n) [
+          | inl below ↦ get_below n k (n ∷ more) below
+          | inr le ↦ let same : n ≡ k = omega (arith, lt, le) in subst (λ (m : ℕ). slice_get (numbers_below n ++ n ∷ more) m ≡ Some m) same (get_there n n more)
+        ]
+
+pub agrees_other : (n : ℕ) (xs : List ℕ) → HasOther n xs → IsAgreement xs n
+agrees_other n xs h = record {
+  below = λ k lt. ap (λ (ys : List ℕ). is_needed_there ys k) h.2 ∙ rw (get_below n k (h.0 ∷ h.1) lt) (eq-eqb k k refl);
+  there = ap (λ (ys : List ℕ). is_needed_there ys n) h.2 ∙ rw (get_there n h.0 h.1) (eqb_apart h.0 n h.3);
+}
+
+pub agrees_all : (n : ℕ) (xs : List ℕ) → xs ≡ numbers_below n → IsAgreement xs n
+agrees_all n xs e = record {
+  below = λ k lt. ap (λ (ys : List ℕ). is_needed_there ys k) (e ∙ sym (append-nil (numbers_below n))) ∙ rw (get_below n k [] lt) (eq-eqb k k refl);
+  there = ap (λ (ys : List ℕ). is_needed_there ys n) e ∙ rw (subst (λ (k : ℕ). slice_get (numbers_below n) k ≡ None) (length_below n) (get_past (numbers_below n))) refl;
+}
+
+pub agrees_later : (table : List TableEntry) (bound n root : ℕ) (xs rest whole : List ℕ) → HasOther n (placed table bound xs root) → fold (placed table bound) xs (root ∷ rest) ≡ whole → IsAgreement whole n
+agrees_later table bound n root xs rest whole h e =
+    subst (λ (ys : List ℕ). IsAgreement ys n) e
+        (agrees_other n (fold (placed table bound) (placed table bound xs root) rest) (other_stays n (placed table bound xs root) (fold (placed table bound) (placed table bound xs root) rest) h (all_placed_extends table bound rest (placed table bound xs root))))

@@ -1,6 +1,8 @@
 //! Frames: the bytes that sites send each other, and what they say.
 #![tactic(auto)]
 
+mod frames;
+mod misplaced;
 mod order;
 mod packets;
 mod parts;
@@ -12,6 +14,7 @@ mod values;
 mod write_packets;
 mod write_values;
 
+pub use frames::{decode, encode};
 pub use packets::{Current, Operation, Outcome, Packet, Reply, Request, Wake};
 pub use refusal::WireRefused;
 pub use values::{TableEntry, TableMember, WireBody, WireField, WireValue};

@@ -200,7 +200,7 @@ fn climb(
 }
 
 /// The first place at which another index is needed than the place, or none.
-fn agreement(alloc: Global, table: &[TableEntry], roots: &[u32]) -> Result<usize, NoMemory>
+pub(crate) fn agreement(alloc: Global, table: &[TableEntry], roots: &[u32]) -> Result<usize, NoMemory>
     requires earlier { NeedsEarlier table.now }
     requires roots { All (λ i. i < length table.now) roots.now }
     ensures { IfOk result (λ n. IsAgreement (order table.now roots.now) n) }
