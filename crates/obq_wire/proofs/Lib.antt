@@ -10,4 +10,5 @@ pub mod FrameLaws
 pub mod WalkLaws
 pub mod Earlier
 pub mod SeenLaws
+pub mod Numbered
 pub mod BehindTags

@@ -5,3 +5,4 @@ pub mod Walk
 pub mod Seen
 pub mod Reading
 pub mod Frames
+pub mod Tags
