@@ -1,5 +1,5 @@
 -- What stands behind a tag.
-use Rattle.std.proofs.Common.{◌≡◌, ℕ, List, ◌++◌, length, Ok, refl}
+use Rattle.std.proofs.Common.{◌≡◌, ℕ, List, length, Ok, refl}
 use Rattle.obq_wire.specs.declared.values.TableEntry.{TableEntry}
 use Rattle.obq_wire.specs.Reading.{behind_tag, byte_at, operation_arms, operation_at}
 

@@ -1,11 +1,11 @@
 -- Formats: how a part is spelled, what may be spelled, and how it is read. A format is exact where what is read is what was
 -- spelled, and what is spelled is read.
-use Rattle.std.proofs.Common.{◌≡◌, ℕ, zero, suc, ◌+◌, ◌^◌, ◌<◌, ◌≤◌, Bool, true, false, cond, ltb, List, [], ◌∷◌, ◌++◌, length, get_or, take, drop, Option, Some, None, Result, Ok, Err, refl, sym, ap, subst, ◌∙◌, append_assoc, arith, ◌⊎◌, inl, inr}
-use Rattle.std.specs.List.{flat_map, AllByRecursion}
+use Rattle.std.proofs.Common.{◌≡◌, ℕ, suc, ◌+◌, ◌<◌, Bool, true, false, cond, List, [], ◌∷◌, ◌++◌, length, get_or, take, drop, Option, Some, None, Result, Ok, Err, refl, sym, ap, subst, ◌∙◌, append_assoc, arith, ◌⊎◌, inl, inr}
+use Rattle.std.specs.List.{AllByRecursion}
 use Rattle.std.specs.Prelude.{◌==◌}
 use Rattle.std.proofs.lemmas.Bool.{cases_lt, eqb-true}
 use Rattle.std.proofs.lemmas.List.{length-take, get_or-drop, get_or-take, get_or_past}
-use Rattle.obq_wire.specs.Reading.{Reader, ◌>>=◌, found, in_range, no_parts, one_part, two_parts, three_parts, behind_tag, byte_at, tagged}
+use Rattle.obq_wire.specs.Reading.{Reader, ◌>>=◌, found, in_range, no_parts, one_part, two_parts, three_parts, behind_tag, tagged}
 
 abbrev pub IsBytes : List ℕ → Type 0
 IsBytes bytes = (i : ℕ) → get_or bytes i 0 < 256
@@ -168,7 +168,7 @@ module _ {A B X : Type 0} {r : Reader A} {s : A → List ℕ} {F : A → Type 0}
     takes = λ bytes x rest fits e.
         let t = two_takes first second make bytes x rest fits e in
         subst (λ (y : X). Takes bytes (s (a_of y) ++ s2 (b_of y)) rest × (F (a_of y) × G (b_of y))) t.2
-            (rw (a_is t.0 t.1, b_is t.0 t.1) (t.3, (t.4, t.5)));
+        (rw (a_is t.0 t.1, b_is t.0 t.1) (t.3, (t.4, t.5)));
     again = λ x rest fits. subst (λ (y : X). two_parts r r2 make ((s (a_of x) ++ s2 (b_of x)) ++ rest) ≡ Ok (y, rest)) (made x) (two_again first second make (a_of x) (b_of x) rest fits.0 fits.1);
   }
 
@@ -182,7 +182,7 @@ module _ {A B C X : Type 0} {r : Reader A} {s : A → List ℕ} {F : A → Type 
     takes = λ bytes x rest fits e.
         let t = three_takes first second third make bytes x rest fits e in
         subst (λ (y : X). Takes bytes (s (a_of y) ++ (s2 (b_of y) ++ s3 (c_of y))) rest × (F (a_of y) × (G (b_of y) × H (c_of y)))) t.3
-            (rw (a_is t.0 t.1 t.2, b_is t.0 t.1 t.2, c_is t.0 t.1 t.2) (t.4, (t.5, (t.6, t.7))));
+        (rw (a_is t.0 t.1 t.2, b_is t.0 t.1 t.2, c_is t.0 t.1 t.2) (t.4, (t.5, (t.6, t.7))));
     again = λ x rest fits. subst (λ (y : X). three_parts r r2 r3 make ((s (a_of x) ++ (s2 (b_of x) ++ s3 (c_of x))) ++ rest) ≡ Ok (y, rest)) (made x)
         (three_again first second third make (a_of x) (b_of x) (c_of x) rest fits.0 fits.1.0 fits.1.1);
   }
@@ -194,7 +194,7 @@ module _ {X : Type 0} (spell : X → List ℕ) (May : X → Type 0) where
   arm_none tag x is may bytes y rest fits e =
       let i = ok_is (x, bytes) (y, rest) e in
       subst (λ (z : X × List ℕ). Takes (tag ∷ bytes) (spell z.0) z.1 × May z.0) i
-          (rw is (record { parts = refl; rest_fits = fits }), may)
+      (rw is (record { parts = refl; rest_fits = fits }), may)
 
   pub arm_one : {A : Type 0} {r : Reader A} {s : A → List ℕ} {F : A → Type 0} (first : Exact r s F) (tag : ℕ) (make : A → X)
       → ((a : A) → spell (make a) ≡ tag ∷ s a) → ((a : A) → F a → May (make a)) → ArmTakes spell May (tag, one_part r make)

@@ -1,5 +1,5 @@
 -- Packets are read as they are spelled.
-use Rattle.std.proofs.Common.{◌≡◌, ℕ, ◌+◌, ◌^◌, ◌<◌, ◌≤◌, List, [], ◌∷◌, ◌++◌, length, Result, Ok, Err, refl, sym, ap, subst, ◌∙◌, append_assoc}
+use Rattle.std.proofs.Common.{◌≡◌, ℕ, List, ◌∷◌, ◌++◌, length, Ok, refl, ap, subst, ◌∙◌, append_assoc}
 use Rattle.std.specs.List.{flat_map, AllByRecursion}
 use Rattle.std.proofs.lemmas.List.{append-nil}
 use Rattle.obq_wire.specs.declared.packets.Packet.{Packet}
@@ -10,7 +10,7 @@ use Rattle.obq_wire.specs.declared.packets.Wake.{Wake}
 use Rattle.obq_wire.specs.Spelling.{u16, u32, thread, operation, outcome, current, head, list, entry, spelling}
 use Rattle.obq_wire.specs.Fits.{HasFields}
 use Rattle.obq_wire.specs.Reading.{◌>>=◌, operation_at, outcome_at, current_at, depth_at, head_at, table_at, request_at, reply_at, wake_at, packet_arms, packet_at}
-use Rattle.obq_wire.proofs.Exact.{IsBytes, bind_ok, ok_is, Takes, Takes-then, Exact, ArmTakes, tagged_takes, one_again, exact_two, arm_one}
+use Rattle.obq_wire.proofs.Exact.{bind_ok, ok_is, Takes, Takes-then, Exact, ArmTakes, tagged_takes, one_again, exact_two, arm_one}
 use Rattle.obq_wire.proofs.Fields.{exact_u32}
 use Rattle.obq_wire.proofs.ExactParts.{exact_thread}
 use Rattle.obq_wire.proofs.ExactValues.{exact_table}
@@ -56,15 +56,17 @@ exact_request = record {
       let tt1 = exact_table.takes c.0.1 t.0.0 t.0.1 ct.0.rest_fits t.1 in
       let ot = (exact_operation t.0.0).takes t.0.1 o.0.0 o.0.1 tt1.0.rest_fits o.1 in
       subst (λ (z : Request × List ℕ). Takes bytes (request z.0) z.1 × HasFields (p.Request z.0))
-          (ok_is (record { thread = h.0.0.0; call = h.0.0.1.0; used = h.0.0.1.1.0; made = h.0.0.1.1.1; depth = d.0.0; current = c.0.0; table = t.0.0; operation = o.0.0 }, o.0.1) (r, rest) o.2)
-          (Takes-then ht.0 (Takes-then dt.0 (Takes-then ct.0 (Takes-then tt1.0 ot.0))), (ht.1, (dt.1, (ct.1, (tt1.1, ot.1)))));
+      (ok_is (record { thread = h.0.0.0; call = h.0.0.1.0; used = h.0.0.1.1.0; made = h.0.0.1.1.1; depth = d.0.0; current = c.0.0; table = t.0.0; operation = o.0.0 }, o.0.1) (r, rest) o.2)
+      (Takes-then ht.0 (Takes-then dt.0 (Takes-then ct.0 (Takes-then tt1.0 ot.0))), (ht.1, (dt.1, (ct.1, (tt1.1, ot.1)))));
   again = λ r rest fits.
       ap request_at (apart_5 (head_of_request r) (u16 r.depth) (current r.current) (list entry r.table) (operation r.operation) rest) ∙
-          rw (exact_head.again (r.thread, (r.call, (r.used, r.made))) (u16 r.depth ++ (current r.current ++ (list entry r.table ++ (operation r.operation ++ rest)))) fits.0,
-              exact_depth.again r.depth (current r.current ++ (list entry r.table ++ (operation r.operation ++ rest))) fits.1.0,
-              exact_current.again r.current (list entry r.table ++ (operation r.operation ++ rest)) fits.1.1.0,
-              exact_table.again r.table (operation r.operation ++ rest) fits.1.1.1.0,
-              (exact_operation r.table).again r.operation rest fits.1.1.1.1) refl;
+      rw (
+        exact_head.again (r.thread, (r.call, (r.used, r.made))) (u16 r.depth ++ (current r.current ++ (list entry r.table ++ (operation r.operation ++ rest)))) fits.0,
+        exact_depth.again r.depth (current r.current ++ (list entry r.table ++ (operation r.operation ++ rest))) fits.1.0,
+        exact_current.again r.current (list entry r.table ++ (operation r.operation ++ rest)) fits.1.1.0,
+        exact_table.again r.table (operation r.operation ++ rest) fits.1.1.1.0,
+        (exact_operation r.table).again r.operation rest fits.1.1.1.1,
+      ) refl;
 }
 
 exact_reply : Exact reply_at reply (λ r. HasFields (p.Reply r))
@@ -78,13 +80,15 @@ exact_reply = record {
       let tt1 = exact_table.takes h.0.1 t.0.0 t.0.1 ht.0.rest_fits t.1 in
       let ot = (exact_outcome t.0.0).takes t.0.1 o.0.0 o.0.1 tt1.0.rest_fits o.1 in
       subst (λ (z : Reply × List ℕ). Takes bytes (reply z.0) z.1 × HasFields (p.Reply z.0))
-          (ok_is (record { thread = h.0.0.0; call = h.0.0.1.0; used = h.0.0.1.1.0; made = h.0.0.1.1.1; table = t.0.0; outcome = o.0.0 }, o.0.1) (r, rest) o.2)
-          (Takes-then ht.0 (Takes-then tt1.0 ot.0), (ht.1, (tt1.1, ot.1)));
+      (ok_is (record { thread = h.0.0.0; call = h.0.0.1.0; used = h.0.0.1.1.0; made = h.0.0.1.1.1; table = t.0.0; outcome = o.0.0 }, o.0.1) (r, rest) o.2)
+      (Takes-then ht.0 (Takes-then tt1.0 ot.0), (ht.1, (tt1.1, ot.1)));
   again = λ r rest fits.
       ap reply_at (apart_3 (head_of_reply r) (list entry r.table) (outcome r.outcome) rest) ∙
-          rw (exact_head.again (r.thread, (r.call, (r.used, r.made))) (list entry r.table ++ (outcome r.outcome ++ rest)) fits.0,
-              exact_table.again r.table (outcome r.outcome ++ rest) fits.1.0,
-              (exact_outcome r.table).again r.outcome rest fits.1.1) refl;
+      rw (
+        exact_head.again (r.thread, (r.call, (r.used, r.made))) (list entry r.table ++ (outcome r.outcome ++ rest)) fits.0,
+        exact_table.again r.table (outcome r.outcome ++ rest) fits.1.0,
+        (exact_outcome r.table).again r.outcome rest fits.1.1,
+      ) refl;
 }
 
 exact_wake : Exact wake_at (λ w. thread w.thread ++ u32 w.object) (λ w. HasFields (p.Wake w))
@@ -101,11 +105,16 @@ spelled_wake : (w : Wake) → spelling (p.Wake w) ≡ 3 ∷ (thread w.thread ++ 
 spelled_wake w = append-nil (3 ∷ (thread w.thread ++ u32 w.object))
 
 packet_arms_take : AllByRecursion (ArmTakes spelling HasFields) packet_arms
-packet_arms_take =
-    (arm_one spelling HasFields exact_request 1 p.Request spelled_request (λ _ f. f),
-    (arm_one spelling HasFields exact_reply 2 p.Reply spelled_reply (λ _ f. f),
-    (arm_one spelling HasFields exact_wake 3 p.Wake spelled_wake (λ _ f. f),
-    tt)))
+packet_arms_take = (
+  arm_one spelling HasFields exact_request 1 p.Request spelled_request (λ _ f. f),
+  (
+    arm_one spelling HasFields exact_reply 2 p.Reply spelled_reply (λ _ f. f),
+    (
+      arm_one spelling HasFields exact_wake 3 p.Wake spelled_wake (λ _ f. f),
+      tt,
+    ),
+  ),
+)
 
 packet_again : (x : Packet) (rest : List ℕ) → HasFields x → packet_at (spelling x ++ rest) ≡ Ok (x, rest)
 unfolding packet_at

@@ -1,32 +1,23 @@
 -- References, values, entries and fields are read as they are spelled.
-use Rattle.std.proofs.Common.{◌≡◌, ℕ, ℤ, zero, suc, ◌+◌, ◌^◌, ◌<◌, ◌≤◌, Bool, true, false, cond, ltb, eqb, List, [], ◌∷◌, ◌++◌, length, Option, Some, None, Result, Ok, Err, refl, sym, ap, subst, ◌∙◌, append_assoc, arith}
+use Rattle.std.proofs.Common.{◌≡◌, ℕ, ℤ, zero, suc, Bool, true, false, cond, eqb, List, [], ◌∷◌, ◌++◌, length, Some, None, Ok, refl, sym, ap, subst, ◌∙◌, append_assoc, arith}
 use Rattle.std.specs.Prelude.{⊤, FitsSigned, slice_get}
-use Rattle.std.specs.List.{AllByRecursion}
-use Rattle.std.specs.Int.{w16, w32, w64, cast_signed, cast_unsigned}
+use Rattle.std.specs.Int.{w32, w64, cast_signed, cast_unsigned}
 use Rattle.std.proofs.lemmas.Bool.{eqb-true, eq-eqb}
 use Rattle.std.proofs.lemmas.Int.{of_z-to_z, to_z-of_z}
 use Rattle.std.proofs.Math.Facts.{sfits_to_z, Fits-of_z}
-use Rattle.obq_base.specs.declared.code.CodeNo.{CodeNo}
 use Rattle.obq_base.specs.declared.places.Kind.{Kind}
 use Rattle.obq_base.specs.declared.places.Kind.TheVariants as kind
 use Rattle.obq_base.specs.declared.places.Ref.{Ref}
 use Rattle.obq_base.specs.declared.places.SiteId.{SiteId}
 use Rattle.obq_base.specs.declared.places.ThreadId.{ThreadId}
 use Rattle.obq_base.specs.declared.trees.Flags.{Flags}
-use Rattle.obq_base.specs.declared.values.GroupNo.{GroupNo}
 use Rattle.obq_wire.specs.declared.values.TableEntry.{TableEntry}
 use Rattle.obq_wire.specs.declared.values.TableMember.{TableMember}
-use Rattle.obq_wire.specs.declared.values.WireBody.{WireBody}
-use Rattle.obq_wire.specs.declared.values.WireBody.TheVariants as b
-use Rattle.obq_wire.specs.declared.values.WireField.{WireField}
-use Rattle.obq_wire.specs.declared.values.WireValue.{WireValue}
-use Rattle.obq_wire.specs.declared.values.WireValue.TheVariants as v
-use Rattle.obq_wire.specs.Spelling.{integer, truth, string, list, site, thread, kind_number, reference, closure, value, group_number, code_number, entry, body, field, flags_number, u32}
-use Rattle.obq_wire.specs.Fits.{IsText, IsName, IsSite, IsThread, IsReference, IsCell, codes_at, IsClosure, IsValue, IsList, IsGroupNumber, IsCodeNumber, IsEntry, IsTable, IsBody, IsField}
-use Rattle.obq_wire.specs.Reading.{Reader, ◌>>=◌, byte_at, number_at, text_at, name_at, integer_at, truth_of, truth_at, site_at, thread_at, kinds, kind_at, reference_at, only, cell_at, closure_at, value_arms, value_at, values_at, group_number_at, code_number_at, entry_at, table_at, body_arms, body_at, field_at, flags_of, flags_at, list_at, below, in_range, one_part, two_parts, three_parts}
-use Rattle.obq_wire.proofs.Exact.{IsBytes, bind_ok, ok_is, Takes, Takes-then, Exact, ArmTakes, tagged_takes, one_takes, one_again, two_again, three_takes, three_again, range_takes, range_again, exact_one, exact_two, exact_three, arm_none, arm_one, arm_two}
+use Rattle.obq_wire.specs.Spelling.{integer, truth, string, site, thread, kind_number, reference, closure, flags_number, u32}
+use Rattle.obq_wire.specs.Fits.{IsText, IsName, IsSite, IsThread, IsReference, IsCell, codes_at, IsClosure}
+use Rattle.obq_wire.specs.Reading.{◌>>=◌, byte_at, number_at, text_at, name_at, integer_at, truth_of, truth_at, site_at, thread_at, kinds, kind_at, reference_at, only, cell_at, closure_at, flags_of, flags_at, below, in_range, one_part, three_parts}
+use Rattle.obq_wire.proofs.Exact.{bind_ok, ok_is, Takes, Takes-then, Exact, one_takes, one_again, three_takes, three_again, range_takes, range_again, exact_one, exact_three}
 use Rattle.obq_wire.proofs.Fields.{exact_byte, exact_u16, exact_u32, exact_u64, exact_below, exact_string}
-use Rattle.obq_wire.proofs.Lists.{exact_items, exact_list}
 
 pub exact_text : Exact text_at string IsText
 exact_text = exact_string 65536 (omega arith)
@@ -41,7 +32,7 @@ exact_integer = record {
       let t = one_takes exact_u64 (λ n. cast_signed w64 n) bytes z rest fits e in
       let back : cast_unsigned w64 (cast_signed w64 t.0) ≡ t.0 = of_z-to_z w64 t.0 t.3 in
       subst (λ (y : ℤ). Takes bytes (integer y) rest × FitsSigned w64 y) t.1
-          (rw back t.2, sfits_to_z (record { fits = t.3 }));
+      (rw back t.2, sfits_to_z (record { fits = t.3 }));
   again = λ z rest fits. subst (λ (y : ℤ). one_part (number_at w64) (λ n. cast_signed w64 n) (integer z ++ rest) ≡ Ok (y, rest)) (to_z-of_z w64 z fits)
       (one_again exact_u64 (λ n. cast_signed w64 n) (cast_unsigned w64 z) rest (Fits-of_z fits).fits);
 }
@@ -131,12 +122,12 @@ exact_reference =
 
 exact_only : (wanted : ℕ) → Exact (in_range byte_at (only wanted)) (λ n. n ∷ []) (λ n. n ≡ wanted)
 exact_only wanted = record {
-    takes = λ bytes n rest fits e.
-        let p = range_takes exact_byte (only wanted) bytes n rest fits e in
-        let i = only_is (eqb p.0 wanted) refl p.1 in
-        (subst (λ (m : ℕ). Takes bytes (m ∷ []) rest) i.0 p.2, i.1);
-    again = λ n rest fits. range_again exact_byte (only wanted) n n rest tt (rw (eq-eqb n wanted fits) refl);
-  }
+  takes = λ bytes n rest fits e.
+      let p = range_takes exact_byte (only wanted) bytes n rest fits e in
+      let i = only_is (eqb p.0 wanted) refl p.1 in
+      (subst (λ (m : ℕ). Takes bytes (m ∷ []) rest) i.0 p.2, i.1);
+  again = λ n rest fits. range_again exact_byte (only wanted) n n rest tt (rw (eq-eqb n wanted fits) refl);
+}
   where
     only_is : {m n : ℕ} (t : Bool) → eqb m wanted ≡ t → cond t (Some m) None ≡ Some n → (m ≡ n) × (n ≡ wanted)
     only_is {m} {n} true is e = let i : m ≡ n = cc in (i, sym i ∙ eqb-true m wanted is)
@@ -151,7 +142,7 @@ exact_cell k =
           subst (λ (x : Ref). Takes bytes (reference x) rest × IsCell k x) t.3 (subst (λ (m : ℕ). Takes bytes (site t.0 ++ (m ∷ u32 t.2)) rest) t.6 t.4, (refl, (t.5, t.7)));
       again = λ r rest fits.
           subst (λ (j : Kind). three_parts site_at (in_range byte_at (only (kind_number k))) (number_at w32) (λ s m n. record { site = s; n = n; kind = k }) ((site r.site ++ (kind_number j ∷ u32 r.n)) ++ rest) ≡ Ok (record r { kind = j }, rest)) (sym fits.0)
-              (three_again exact_site (exact_only (kind_number k)) exact_u32 (λ s m n. record { site = s; n = n; kind = k }) r.site (kind_number k) r.n rest fits.1.0 refl fits.1.1);
+          (three_again exact_site (exact_only (kind_number k)) exact_u32 (λ s m n. record { site = s; n = n; kind = k }) r.site (kind_number k) r.n rest fits.1.0 refl fits.1.1);
     }
 
 pub exact_closure : (table : List TableEntry) → Exact (closure_at table) closure (IsClosure table)
@@ -163,10 +154,12 @@ exact_closure table = record {
       let t = (exact_below exact_u32 (length table)).takes bytes p.0.0 p.0.1 fits p.1 in
       let u = (exact_below exact_u32 (codes_at table p.0.0)).takes p.0.1 q.0.0 q.0.1 t.0.rest_fits q.1 in
       subst (λ (z : TableMember × List ℕ). Takes bytes (closure z.0) z.1 × IsClosure table z.0) (ok_is (record { index = p.0.0; member = q.0.0 }, q.0.1) (m, rest) q.2)
-          (Takes-then t.0 u.0, record { index = t.1.0; member = u.1.0; index_fits = t.1.1; member_fits = u.1.1 });
+      (Takes-then t.0 u.0, record { index = t.1.0; member = u.1.0; index_fits = t.1.1; member_fits = u.1.1 });
   again = λ m rest fits.
       let grouped : closure m ++ rest ≡ u32 m.index ++ (u32 m.member ++ rest) = append_assoc (u32 m.index) (u32 m.member) rest in
       ap (closure_at table) grouped ∙
-          rw ((exact_below exact_u32 (length table)).again m.index (u32 m.member ++ rest) (fits.index, fits.index_fits),
-              (exact_below exact_u32 (codes_at table m.index)).again m.member rest (fits.member, fits.member_fits)) refl;
+      rw (
+        (exact_below exact_u32 (length table)).again m.index (u32 m.member ++ rest) (fits.index, fits.index_fits),
+        (exact_below exact_u32 (codes_at table m.index)).again m.member rest (fits.member, fits.member_fits),
+      ) refl;
 }

@@ -1,5 +1,5 @@
 -- Values, entries and fields are read as they are spelled.
-use Rattle.std.proofs.Common.{◌≡◌, ℕ, List, [], ◌∷◌, ◌++◌, length, Ok, refl}
+use Rattle.std.proofs.Common.{◌≡◌, ℕ, List, ◌++◌, Ok, refl}
 use Rattle.std.specs.List.{AllByRecursion}
 use Rattle.obq_base.specs.declared.code.CodeNo.{CodeNo}
 use Rattle.obq_base.specs.declared.places.Kind.TheVariants as kind
@@ -20,16 +20,31 @@ use Rattle.obq_wire.proofs.ExactParts.{exact_text, exact_name, exact_integer, ex
 
 module _ (table : List TableEntry) where
   value_arms_take : AllByRecursion (ArmTakes value (IsValue table)) (value_arms table)
-  value_arms_take =
-      (arm_one value (IsValue table) exact_integer 0 v.Int (λ _. refl) (λ _ f. f),
-      (arm_one value (IsValue table) exact_truth 1 v.Bool (λ _. refl) (λ _ f. f),
-      (arm_none value (IsValue table) 2 v.Okay refl tt,
-      (arm_one value (IsValue table) exact_text 3 v.Text (λ _. refl) (λ _ f. f),
-      (arm_one value (IsValue table) exact_text 4 v.Exn (λ _. refl) (λ _ f. f),
-      (arm_one value (IsValue table) (exact_closure table) 5 v.Clo (λ _. refl) (λ _ f. f),
-      (arm_one value (IsValue table) exact_reference 6 v.Ref (λ _. refl) (λ _ f. f),
-      (arm_two value (IsValue table) exact_thread exact_site 7 v.Thread (λ _ _. refl) (λ _ _ f g. (f, g)),
-      tt))))))))
+  value_arms_take = (
+    arm_one value (IsValue table) exact_integer 0 v.Int (λ _. refl) (λ _ f. f),
+    (
+      arm_one value (IsValue table) exact_truth 1 v.Bool (λ _. refl) (λ _ f. f),
+      (
+        arm_none value (IsValue table) 2 v.Okay refl tt,
+        (
+          arm_one value (IsValue table) exact_text 3 v.Text (λ _. refl) (λ _ f. f),
+          (
+            arm_one value (IsValue table) exact_text 4 v.Exn (λ _. refl) (λ _ f. f),
+            (
+              arm_one value (IsValue table) (exact_closure table) 5 v.Clo (λ _. refl) (λ _ f. f),
+              (
+                arm_one value (IsValue table) exact_reference 6 v.Ref (λ _. refl) (λ _ f. f),
+                (
+                  arm_two value (IsValue table) exact_thread exact_site 7 v.Thread (λ _ _. refl) (λ _ _ f g. (f, g)),
+                  tt,
+                ),
+              ),
+            ),
+          ),
+        ),
+      ),
+    ),
+  )
 
   value_again : (x : WireValue) (rest : List ℕ) → IsValue table x → value_at table (value x ++ rest) ≡ Ok (x, rest)
   unfolding value_at
@@ -50,11 +65,16 @@ module _ (table : List TableEntry) where
   exact_values = exact_list exact_value
 
   body_arms_take : AllByRecursion (ArmTakes body (IsBody table)) (body_arms table)
-  body_arms_take =
-      (arm_one body (IsBody table) exact_value 0 b.Value (λ _. refl) (λ _ f. f),
-      (arm_one body (IsBody table) (exact_closure table) 1 b.Method (λ _. refl) (λ _ f. f),
-      (arm_two body (IsBody table) (exact_cell kind.Object) exact_name 2 b.Alias (λ _ _. refl) (λ _ _ f g. (f, g)),
-      tt)))
+  body_arms_take = (
+    arm_one body (IsBody table) exact_value 0 b.Value (λ _. refl) (λ _ f. f),
+    (
+      arm_one body (IsBody table) (exact_closure table) 1 b.Method (λ _. refl) (λ _ f. f),
+      (
+        arm_two body (IsBody table) (exact_cell kind.Object) exact_name 2 b.Alias (λ _ _. refl) (λ _ _ f g. (f, g)),
+        tt,
+      ),
+    ),
+  )
 
   body_again : (x : WireBody) (rest : List ℕ) → IsBody table x → body_at table (body x ++ rest) ≡ Ok (x, rest)
   unfolding body_at

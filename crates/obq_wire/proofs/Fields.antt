@@ -1,14 +1,12 @@
 -- Numbers, byte strings, lists and references are read as they are spelled.
-use Rattle.std.proofs.Common.{◌≡◌, ℕ, ℤ, zero, suc, ◌+◌, ◌^◌, ◌<◌, ◌≤◌, Bool, true, false, cond, ltb, List, [], ◌∷◌, ◌++◌, length, take, drop, Option, Some, None, Result, Ok, Err, refl, sym, ap, subst, ◌∙◌, append_assoc, arith}
-use Rattle.std.specs.Prelude.{⊤, FitsSigned, slice_get}
-use Rattle.std.specs.List.{flat_map, AllByRecursion}
-use Rattle.std.specs.Int.{Width, w16, w32, w64, byte_len, from_be_bytes, to_be_bytes, cast_signed, cast_unsigned}
-use Rattle.std.proofs.lemmas.Bool.{ltb-false, ltb-true, le-ltb, lt-ltb, eqb-true}
-use Rattle.std.proofs.lemmas.Int.{of_z-to_z, to_z-of_z}
+use Rattle.std.proofs.Common.{◌≡◌, ℕ, ◌^◌, ◌<◌, ◌≤◌, Bool, true, false, cond, ltb, List, [], ◌∷◌, ◌++◌, length, take, drop, Some, None, Ok, Err, refl, sym, ap, subst, ◌∙◌, append_assoc, arith}
+use Rattle.std.specs.Prelude.{⊤}
+use Rattle.std.specs.Int.{Width, w16, w32, w64, byte_len, from_be_bytes, to_be_bytes}
+use Rattle.std.proofs.lemmas.Bool.{ltb-false, ltb-true, le-ltb, lt-ltb}
 use Rattle.std.proofs.lemmas.List.{take_at, drop_at, take-append-drop, length-append, length-take}
 use Rattle.std.proofs.lemmas.Nat.{be_bytes_2, be_bytes_4, be_bytes_8, from_be_bytes-to_be_bytes_2, from_be_bytes-to_be_bytes_4, from_be_bytes-to_be_bytes_8}
 use Rattle.obq_wire.specs.Spelling.{string, u16, u32, u64}
-use Rattle.obq_wire.specs.Reading.{Reader, ◌>>=◌, byte_at, number_at, string_at, items_at, list_at, below, in_range}
+use Rattle.obq_wire.specs.Reading.{Reader, byte_at, number_at, string_at, below, in_range}
 use Rattle.obq_wire.proofs.Exact.{IsBytes, IsBytes-drop, IsBytes-take, IsBytes-rest, bind_ok, guard_ok, ok_is, Takes, Takes-then, Exact, range_takes, range_again}
 
 -- ---- numbers
@@ -20,7 +18,7 @@ exact_byte = record { takes = took; again = λ x rest fits. refl }
     took [] x rest fits e = absurd cc
     took (b ∷ bytes) x rest fits e =
         subst (λ (z : ℕ × List ℕ). Takes (b ∷ bytes) (z.0 ∷ []) z.1 × ⊤) (ok_is (b, bytes) (x, rest) e)
-            (record { parts = refl; rest_fits = IsBytes-rest b bytes fits }, tt)
+        (record { parts = refl; rest_fits = IsBytes-rest b bytes fits }, tt)
 
 record IsWide (w : Width) (limit : ℕ) : Type 0 where
   pub len : (n : ℕ) → length (to_be_bytes w n) ≡ byte_len w
@@ -60,7 +58,7 @@ module _ (w : Width) (limit : ℕ) (wide : IsWide w limit) where
       let long : byte_len w ≤ length bytes = ltb-false _ _ g.0 in
       let front : to_be_bytes w (from_be_bytes w (take (byte_len w) bytes)) ≡ take (byte_len w) bytes = wide.back (take (byte_len w) bytes) (omega (arith, length-take (byte_len w) bytes)) (IsBytes-take (byte_len w) bytes fits) in
       subst (λ (z : ℕ × List ℕ). Takes bytes (to_be_bytes w z.0) z.1 × (z.0 < limit)) i
-          (record { parts = rw front (sym (take-append-drop (byte_len w) bytes)); rest_fits = IsBytes-drop (byte_len w) bytes fits }, wide.below (take (byte_len w) bytes) (IsBytes-take (byte_len w) bytes fits))
+      (record { parts = rw front (sym (take-append-drop (byte_len w) bytes)); rest_fits = IsBytes-drop (byte_len w) bytes fits }, wide.below (take (byte_len w) bytes) (IsBytes-take (byte_len w) bytes fits))
 
   number_again : (n : ℕ) (rest : List ℕ) → n < limit → number_at w (to_be_bytes w n ++ rest) ≡ Ok (n, rest)
   number_again n rest lt =

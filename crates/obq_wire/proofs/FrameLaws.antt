@@ -1,15 +1,14 @@
 -- A frame is read exactly where a packet is spelled so.
-use Rattle.std.proofs.Common.{◌≡◌, ℕ, suc, List, [], ◌∷◌, ◌++◌, length, Option, Some, None, Result, Ok, Err, refl, sym, ap, subst, ◌∙◌}
+use Rattle.std.proofs.Common.{◌≡◌, ℕ, List, [], ◌∷◌, Option, Some, None, Result, Ok, Err, refl, sym, ap, subst, ◌∙◌}
 use Rattle.std.specs.Prelude.{IfOk}
 use Rattle.std.proofs.lemmas.List.{append-nil}
 use Rattle.obq_wire.specs.declared.packets.Packet.{Packet}
 use Rattle.obq_wire.specs.declared.refusal.WireRefused.{WireRefused}
-use Rattle.obq_wire.specs.declared.refusal.WireRefused.TheVariants as refused
 use Rattle.obq_wire.specs.Spelling.{spelling}
 use Rattle.obq_wire.specs.Fits.{HasFields}
 use Rattle.obq_wire.specs.Order.{misplaced}
 use Rattle.obq_wire.specs.Reading.{packet_at}
-use Rattle.obq_wire.specs.Frames.{CanBeSent, Spells, in_order, whole, frame_at, Answers}
+use Rattle.obq_wire.specs.Frames.{Spells, in_order, whole, frame_at, Answers}
 use Rattle.obq_wire.proofs.Exact.{IsBytes, Takes}
 use Rattle.obq_wire.proofs.ExactPackets.{exact_packet}
 
@@ -44,6 +43,7 @@ whole_ok bytes (Ok (q, [])) p e = by (misplaced q) refl e
   where
     ok : Packet → Result (Packet × List ℕ) ℕ
     ok x = Ok (x, [])
+
     by : (o : Option ℕ) → misplaced q ≡ o → in_order q o ≡ Ok p → (ok q ≡ Ok (p, [])) × (misplaced p ≡ None)
     by (Some k) is e = absurd cc
     by None is e = let same : q ≡ p = cc in (ap ok same, subst (λ (x : Packet). misplaced x ≡ None) same is)

@@ -1,11 +1,11 @@
 -- Lists are read as they are spelled, also where what an item may be depends on the items before it.
-use Rattle.std.proofs.Common.{◌≡◌, ℕ, zero, suc, ◌^◌, ◌<◌, List, [], ◌∷◌, ◌++◌, length, Result, Ok, Err, refl, sym, ap, subst, ◌∙◌, append_assoc}
+use Rattle.std.proofs.Common.{◌≡◌, ℕ, zero, suc, ◌^◌, ◌<◌, List, [], ◌∷◌, ◌++◌, length, Ok, refl, sym, ap, subst, ◌∙◌, append_assoc}
 use Rattle.std.specs.List.{flat_map, AllByRecursion}
 use Rattle.std.specs.Int.{w32}
 use Rattle.std.proofs.lemmas.List.{append-nil}
 use Rattle.obq_wire.specs.Spelling.{u32, list}
 use Rattle.obq_wire.specs.Fits.{Each, IsList}
-use Rattle.obq_wire.specs.Reading.{Reader, ◌>>=◌, number_at, items_at, list_at}
+use Rattle.obq_wire.specs.Reading.{Reader, number_at, items_at, list_at}
 use Rattle.obq_wire.proofs.Exact.{IsBytes, bind_ok, ok_is, Takes, Takes-then, Exact}
 use Rattle.obq_wire.proofs.Fields.{exact_u32}
 
@@ -25,7 +25,7 @@ module _ {A : Type 0} {r : List A → Reader A} {s : A → List ℕ} {P : List A
   items_again [] so_far rest all = ap (λ (z : List A). Ok (z, rest)) (sym (append-nil so_far))
   items_again (x ∷ xs) so_far rest all =
       rw (append_assoc (s x) (flat_map s xs) rest, (item so_far).again x (flat_map s xs ++ rest) all.0)
-          (items_again xs (so_far ++ x ∷ []) rest all.1 ∙ ap (λ (z : List A). Ok (z, rest)) (append_assoc so_far (x ∷ []) xs))
+      (items_again xs (so_far ++ x ∷ []) rest all.1 ∙ ap (λ (z : List A). Ok (z, rest)) (append_assoc so_far (x ∷ []) xs))
 
   pub exact_items : Exact (list_at r) (list s) (λ xs. (length xs < 2 ^ 32) × Each P [] xs)
   exact_items = record {
@@ -35,7 +35,7 @@ module _ {A : Type 0} {r : List A → Reader A} {s : A → List ℕ} {P : List A
         let m = items_takes p.0.0 [] p.0.1 xs rest t.0.rest_fits p.2 in
         let both : Takes bytes (u32 p.0.0 ++ flat_map s m.0) rest = Takes-then t.0 m.3 in
         subst (λ (z : List A). Takes bytes (list s z) rest × ((length z < 2 ^ 32) × Each P [] z)) m.1
-            (subst (λ (k : ℕ). Takes bytes (u32 k ++ flat_map s m.0) rest × ((k < 2 ^ 32) × Each P [] m.0)) (sym m.2) (both, (t.1, m.4)));
+        (subst (λ (k : ℕ). Takes bytes (u32 k ++ flat_map s m.0) rest × ((k < 2 ^ 32) × Each P [] m.0)) (sym m.2) (both, (t.1, m.4)));
     again = λ xs rest fits.
         rw (append_assoc (u32 (length xs)) (flat_map s xs) rest, exact_u32.again (length xs) (flat_map s xs ++ rest) fits.0) (items_again xs [] rest fits.1);
   }

@@ -1,11 +1,11 @@
 -- Laws of the numbers that were seen, and of the first entry that is misplaced.
-use Rattle.std.proofs.Common.{◌≡◌, ◌≢◌, ℕ, ◌-◌, ◌<◌, Bool, true, false, cond, ltb, eqb, List, [], ◌∷◌, ◌++◌, length, take, drop, Some, refl, sym, ap, subst, ◌∙◌, arith}
-use Rattle.std.specs.Prelude.{◌||◌, ◌&&◌, not}
+use Rattle.std.proofs.Common.{◌≡◌, ℕ, ◌<◌, Bool, true, false, cond, ltb, eqb, List, [], ◌∷◌, length, take, drop, Some, refl, sym, ap, ◌∙◌, arith}
+use Rattle.std.specs.Prelude.{◌||◌, ◌&&◌}
 use Rattle.std.specs.List.{list_any}
 use Rattle.std.specs.Ordering.{nat_cmp, ordering_then, is_eq}
 use Rattle.std.specs.declared.cmp.Ordering.{Ordering}
 use Rattle.std.specs.declared.cmp.Ordering.TheVariants.{Less, Equal, Greater}
-use Rattle.std.proofs.lemmas.Bool.{ltb-true, eqb-true}
+use Rattle.std.proofs.lemmas.Bool.{ltb-true}
 use Rattle.std.proofs.lemmas.List.{length-take, length-drop}
 use Rattle.obq_base.specs.declared.values.GroupNo.{GroupNo}
 use Rattle.obq_wire.specs.declared.values.TableEntry.{TableEntry}
@@ -24,6 +24,7 @@ nat_equal m n = by_order (ltb m n) refl
     by_test : (t : Bool) → is_eq (cond t Equal Greater) ≡ t
     by_test true = refl
     by_test false = refl
+
     by_order : (t : Bool) → ltb m n ≡ t → is_eq (cond (ltb m n) Less (cond (eqb m n) Equal Greater)) ≡ eqb m n
     by_order true e = rw e (sym (eqb_apart m n (let lt : m < n = ltb-true m n e in omega (arith, lt))))
     by_order false e = rw e (by_test (eqb m n))
@@ -46,6 +47,7 @@ misplaced_here needed table k lt lacks = by (drop k table) refl
   where
     len : length (take k table) ≡ k
     len = omega (arith, length-take k table, lt)
+
     by : (es : List TableEntry) → drop k table ≡ es → misplaced_from needed (take k table) es ≡ Some k
     by [] e = absurd (omega (arith, length-drop k table, ap length e, lt))
     by (e ∷ es) is = rw (len, lacks, or_true (list_any (λ d. same_number d.number e.number) (take k table))) refl

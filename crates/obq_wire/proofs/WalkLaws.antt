@@ -1,14 +1,14 @@
 -- Laws of the walk over a table.
-use Rattle.std.proofs.Common.{◌≡◌, ◌≢◌, ℕ, zero, suc, ◌+◌, ◌<◌, ◌≤◌, Bool, true, false, cond, ltb, eqb, List, [], ◌∷◌, ◌++◌, length, Option, Some, None, refl, sym, ap, subst, ◌∙◌, append_assoc, add-one, arith, inl, inr}
-use Rattle.std.specs.Prelude.{fold, drop, ◌==◌, slice_get}
-use Rattle.std.specs.List.{AllByRecursion, list_any}
+use Rattle.std.proofs.Common.{◌≡◌, ◌≢◌, ℕ, zero, suc, ◌+◌, ◌<◌, ◌≤◌, Bool, true, false, cond, eqb, List, [], ◌∷◌, ◌++◌, length, Some, None, refl, sym, ap, subst, ◌∙◌, append_assoc, add-one, arith, inl, inr}
+use Rattle.std.specs.Prelude.{fold, ◌==◌, slice_get}
+use Rattle.std.specs.List.{AllByRecursion}
 use Rattle.std.proofs.lemmas.Bool.{cases_lt, eqb-true, eq-eqb, eqb-false}
 use Rattle.std.proofs.lemmas.List.{append-nil, length-append}
 use Rattle.std.proofs.lemmas.List.Folds.{list_any-append}
 use Rattle.obq_wire.specs.declared.order.Begun.{Begun}
 use Rattle.obq_wire.specs.declared.values.TableEntry.{TableEntry}
 use Rattle.obq_wire.specs.Order.{entry_needs, has_number, is_needed_there, placed}
-use Rattle.obq_wire.specs.Walk.{numbers_below, NeedsEarlier, still_needs, IsBegun, done, all_done, HasOther, IsAgreement}
+use Rattle.obq_wire.specs.Walk.{numbers_below, still_needs, IsBegun, done, all_done, HasOther, IsAgreement}
 
 by_cond : {X : Type 0} (P : X → Type 0) (t : Bool) (x y : X) → P x → P y → P (cond t x y)
 by_cond P true x y p q = p
@@ -40,9 +40,9 @@ module _ (table : List TableEntry) where
   placed_extends (suc bound) xs i =
       let behind = fold (placed table bound) xs (entry_needs table i) in
       by_cond (Extends xs) (i == bound) (cond (has_number xs i) xs (behind ++ i ∷ [])) (placed table bound xs i)
-          (by_cond (Extends xs) (has_number xs i) xs (behind ++ i ∷ []) (extends_refl xs)
-              (extends_then xs behind (behind ++ i ∷ []) (fold_extends (placed table bound) (placed_extends bound) (entry_needs table i) xs) (extends_by behind (i ∷ []))))
-          (placed_extends bound xs i)
+      (by_cond (Extends xs) (has_number xs i) xs (behind ++ i ∷ []) (extends_refl xs)
+      (extends_then xs behind (behind ++ i ∷ []) (fold_extends (placed table bound) (placed_extends bound) (entry_needs table i) xs) (extends_by behind (i ∷ []))))
+      (placed_extends bound xs i)
 
   pub all_placed_extends : (bound : ℕ) (is xs : List ℕ) → Extends xs (fold (placed table bound) xs is)
   all_placed_extends bound = fold_extends (placed table bound) (placed_extends bound)
@@ -70,7 +70,7 @@ module _ (table : List TableEntry) where
     where
       at_bound : (i < bound → placed table bound xs i ≡ cond (has_number xs i) xs (fold (placed table i) xs (entry_needs table i) ++ i ∷ [])) → (t : Bool) → eqb i bound ≡ t
           → cond (eqb i bound) (cond (has_number xs i) xs (fold (placed table bound) xs (entry_needs table i) ++ i ∷ [])) (placed table bound xs i)
-              ≡ cond (has_number xs i) xs (fold (placed table i) xs (entry_needs table i) ++ i ∷ [])
+          ≡ cond (has_number xs i) xs (fold (placed table i) xs (entry_needs table i) ++ i ∷ [])
       at_bound lower true e = rw e (ap (λ (b : ℕ). cond (has_number xs i) xs (fold (placed table b) xs (entry_needs table i) ++ i ∷ [])) (sym (eqb-true i bound e)))
       at_bound lower false e = rw e (lower (omega (arith, lt, eqb-false i bound e)))
 
@@ -90,10 +90,10 @@ pub has_below : (n j : ℕ) → j < n → has_number (numbers_below n) j ≡ tru
 has_below zero j lt = absurd (omega (arith, lt))
 has_below (suc n) j lt =
     list_any-append (λ m. m == j) (numbers_below n) (n ∷ []) ∙
-        elim (cases_lt j n) [
-          | inl below ↦ rw (has_below n j below) refl
-          | inr le ↦ rw (lacks_from n j le, eq-eqb n j (omega (arith, lt, le))) refl
-        ]
+    elim (cases_lt j n) [
+      | inl below ↦ rw (has_below n j below) refl
+      | inr le ↦ rw (lacks_from n j le, eq-eqb n j (omega (arith, lt, le))) refl
+    ]
 
 pub all_push : {X : Type 0} (P : X → Type 0) (xs : List X) (x : X) → AllByRecursion P xs → P x → AllByRecursion P (xs ++ x ∷ [])
 all_push P [] x all p = (p, tt)
@@ -116,7 +116,7 @@ module _ (table : List TableEntry) (before : List Begun) (b : Begun) (count : �
       let last : done table (numbers_below count) b ≡ numbers_below count ++ b.index ∷ [] = rw e refl in
       let here = all_done_extends table before (numbers_below count ++ b.index ∷ []) in
       subst (λ (xs : List ℕ). HasOther count xs) (sym (all_done_push table before b (numbers_below count) ∙ ap (all_done table before) last))
-          (other_here count b.index (all_done table before (numbers_below count ++ b.index ∷ [])) ne here)
+      (other_here count b.index (all_done table before (numbers_below count ++ b.index ∷ [])) ne here)
 
   pub step_placed : still_needs table b ≡ [] → b.index ≡ count → all_done table before (numbers_below (count + 1)) ≡ all_done table (before ++ b ∷ []) (numbers_below count)
   step_placed e same =
@@ -205,10 +205,10 @@ get_below : (n k : ℕ) (more : List ℕ) → k < n → slice_get (numbers_below
 get_below zero k more lt = absurd (omega (arith, lt))
 get_below (suc n) k more lt =
     ap (λ (xs : List ℕ). slice_get xs k) (append_assoc (numbers_below n) (n ∷ []) more) ∙
-        elim (cases_lt k n) [
-          | inl below ↦ get_below n k (n ∷ more) below
-          | inr le ↦ let same : n ≡ k = omega (arith, lt, le) in subst (λ (m : ℕ). slice_get (numbers_below n ++ n ∷ more) m ≡ Some m) same (get_there n n more)
-        ]
+    elim (cases_lt k n) [
+      | inl below ↦ get_below n k (n ∷ more) below
+      | inr le ↦ let same : n ≡ k = omega (arith, lt, le) in subst (λ (m : ℕ). slice_get (numbers_below n ++ n ∷ more) m ≡ Some m) same (get_there n n more)
+    ]
 
 pub agrees_other : (n : ℕ) (xs : List ℕ) → HasOther n xs → IsAgreement xs n
 agrees_other n xs h = record {
@@ -225,4 +225,4 @@ agrees_all n xs e = record {
 pub agrees_later : (table : List TableEntry) (bound n root : ℕ) (xs rest whole : List ℕ) → HasOther n (placed table bound xs root) → fold (placed table bound) xs (root ∷ rest) ≡ whole → IsAgreement whole n
 agrees_later table bound n root xs rest whole h e =
     subst (λ (ys : List ℕ). IsAgreement ys n) e
-        (agrees_other n (fold (placed table bound) (placed table bound xs root) rest) (other_stays n (placed table bound xs root) (fold (placed table bound) (placed table bound xs root) rest) h (all_placed_extends table bound rest (placed table bound xs root))))
+    (agrees_other n (fold (placed table bound) (placed table bound xs root) rest) (other_stays n (placed table bound xs root) (fold (placed table bound) (placed table bound xs root) rest) h (all_placed_extends table bound rest (placed table bound xs root))))

@@ -1,5 +1,5 @@
 -- The one order of a table.
-use Rattle.std.specs.Prelude.{ℕ, zero, suc, Bool, true, false, List, [], ◌∷◌, ◌++◌, length, Option, Some, None, fold, slice_get, not, ◌||◌, ◌&&◌, ◌==◌, if◌then◌else◌}
+use Rattle.std.specs.Prelude.{ℕ, zero, suc, Bool, false, List, [], ◌∷◌, ◌++◌, length, Option, Some, None, fold, slice_get, not, ◌||◌, ◌&&◌, ◌==◌, if◌then◌else◌}
 use Rattle.std.specs.List.{flat_map, list_any}
 use Rattle.obq_base.specs.declared.values.GroupNo.{GroupNo}
 use Rattle.obq_wire.specs.declared.packets.Operation.{Operation}
@@ -11,7 +11,6 @@ use Rattle.obq_wire.specs.declared.packets.Packet.TheVariants as p
 use Rattle.obq_wire.specs.declared.values.TableEntry.{TableEntry}
 use Rattle.obq_wire.specs.declared.values.WireBody.{WireBody}
 use Rattle.obq_wire.specs.declared.values.WireBody.TheVariants as b
-use Rattle.obq_wire.specs.declared.values.WireField.{WireField}
 use Rattle.obq_wire.specs.declared.values.WireValue.{WireValue}
 use Rattle.obq_wire.specs.declared.values.WireValue.TheVariants as v
 use Rattle.obq_wire.specs.Spelling.{table_of}
@@ -77,7 +76,7 @@ has_number ns n = list_any (λ m. m == n) ns
 unfoldable pub placed : List TableEntry → ℕ → List ℕ → ℕ → List ℕ
 placed table zero so_far i = so_far
 placed table (suc bound) so_far i =
-  if i == bound
+    if i == bound
     then (if has_number so_far i then so_far else fold (placed table bound) so_far (entry_needs table i) ++ i ∷ [])
     else placed table bound so_far i
 
@@ -100,7 +99,7 @@ same_number g h = (g.thread == h.thread) && (g.n == h.n)
 abbrev pub misplaced_from : List ℕ → List TableEntry → List TableEntry → Option ℕ
 misplaced_from needed earlier [] = None
 misplaced_from needed earlier (e ∷ es) =
-  if list_any (λ d. same_number d.number e.number) earlier || not (is_needed_there needed (length earlier))
+    if list_any (λ d. same_number d.number e.number) earlier || not (is_needed_there needed (length earlier))
     then Some (length earlier)
     else misplaced_from needed (earlier ++ e ∷ []) es
 

@@ -1,5 +1,5 @@
 -- The operations of a frame by the names that the table of `obq_tables` has for them.
-use Rattle.std.specs.Prelude.{ℕ, List, [], ◌∷◌, Option, codes, bytes_eq}
+use Rattle.std.specs.Prelude.{ℕ, List, Option, codes, bytes_eq}
 use Rattle.std.specs.List.{zip}
 use Rattle.std.specs.Map.{lookup}
 use Rattle.obq_tables.specs.Tables.{wire_numbers, wire_operations}

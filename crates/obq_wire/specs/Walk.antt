@@ -1,5 +1,5 @@
 -- What the walk over a table keeps: entries that were begun, from the outermost on, each with the indices that it still needs.
-use Rattle.std.specs.Prelude.{◌≡◌, ◌≢◌, ◌<◌, ℕ, zero, suc, Bool, true, false, List, [], ◌∷◌, ◌++◌, length, drop, map, Option, Some, None, fold}
+use Rattle.std.specs.Prelude.{◌≡◌, ◌≢◌, ◌<◌, ℕ, zero, suc, true, false, List, [], ◌∷◌, ◌++◌, drop, Option, Some, None, fold}
 use Rattle.std.specs.List.{AllByRecursion}
 use Rattle.obq_wire.specs.declared.order.Begun.{Begun}
 use Rattle.obq_wire.specs.declared.order.Next.{Next}

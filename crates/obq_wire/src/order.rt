@@ -170,12 +170,7 @@ fn step(
 }
 
 /// Places an index that is needed behind the first `count`, with what it needs.
-fn climb(
-    alloc: Global,
-    table: &[TableEntry],
-    root: u32,
-    count: usize,
-) -> Result<Reached, NoMemory>
+fn climb(alloc: Global, table: &[TableEntry], root: u32, count: usize) -> Result<Reached, NoMemory>
     requires earlier { NeedsEarlier table.now }
     requires root { root < length table.now }
     ensures { IfOk result (λ r. Reaches (placed table.now (length table.now) (numbers_below count) root) r) }
@@ -185,7 +180,10 @@ fn climb(
     }
     let mut count = count;
     let mut begun = Vec::new(alloc);
-    begun.push(Begun { index: root, next: 0 })?;
+    begun.push(Begun {
+        index: root,
+        next: 0,
+    })?;
     for _ in 0..u64::MAX {
         let Some(innermost) = begun.pop() else {
             return Ok(Reached::All(count));
@@ -200,7 +198,11 @@ fn climb(
 }
 
 /// The first place at which another index is needed than the place, or none.
-pub(crate) fn agreement(alloc: Global, table: &[TableEntry], roots: &[u32]) -> Result<usize, NoMemory>
+pub(crate) fn agreement(
+    alloc: Global,
+    table: &[TableEntry],
+    roots: &[u32],
+) -> Result<usize, NoMemory>
     requires earlier { NeedsEarlier table.now }
     requires roots { All (λ i. i < length table.now) roots.now }
     ensures { IfOk result (λ n. IsAgreement (order table.now roots.now) n) }

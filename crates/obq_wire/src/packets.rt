@@ -7,28 +7,84 @@ use sqlite_items::Items;
 /// An operation that is asked of another site.
 #[derive(Drop)]
 pub enum Operation {
-    Get { object: Ref, name: Name },
-    Call { object: Ref, name: Name, arguments: Items<WireValue> },
-    Set { object: Ref, name: Name, body: WireBody },
-    Copy { object: Ref },
-    Redirect { object: Ref, target: Ref },
-    ArrayItem { array: Ref, index: i64 },
-    ArraySize { array: Ref },
-    ArraySet { array: Ref, index: i64, value: WireValue },
-    VarGet { variable: Ref },
-    VarSet { variable: Ref, value: WireValue },
-    Put { writer: Ref, text: Text },
-    Join { thread: ThreadId },
-    Line { condition: Ref, object: Ref },
-    GiveUp { object: Ref },
-    Again { object: Ref, condition: Ref },
-    Signal { condition: Ref },
-    Broadcast { condition: Ref },
-    Export { name: Text, value: WireValue },
+    Get {
+        object: Ref,
+        name: Name,
+    },
+    Call {
+        object: Ref,
+        name: Name,
+        arguments: Items<WireValue>,
+    },
+    Set {
+        object: Ref,
+        name: Name,
+        body: WireBody,
+    },
+    Copy {
+        object: Ref,
+    },
+    Redirect {
+        object: Ref,
+        target: Ref,
+    },
+    ArrayItem {
+        array: Ref,
+        index: i64,
+    },
+    ArraySize {
+        array: Ref,
+    },
+    ArraySet {
+        array: Ref,
+        index: i64,
+        value: WireValue,
+    },
+    VarGet {
+        variable: Ref,
+    },
+    VarSet {
+        variable: Ref,
+        value: WireValue,
+    },
+    Put {
+        writer: Ref,
+        text: Text,
+    },
+    Join {
+        thread: ThreadId,
+    },
+    Line {
+        condition: Ref,
+        object: Ref,
+    },
+    GiveUp {
+        object: Ref,
+    },
+    Again {
+        object: Ref,
+        condition: Ref,
+    },
+    Signal {
+        condition: Ref,
+    },
+    Broadcast {
+        condition: Ref,
+    },
+    Export {
+        name: Text,
+        value: WireValue,
+    },
     /// The value under a name, which has to be an engine where one is wanted.
-    Import { name: Text, engine: bool },
+    Import {
+        name: Text,
+        engine: bool,
+    },
     /// The engine runs the procedure.
-    Engine { engine: Ref, procedure: TableMember },
+    Engine {
+        engine: Ref,
+        procedure: TableMember,
+    },
 }
 
 /// What came of an operation.
@@ -39,9 +95,15 @@ pub enum Outcome {
     Raised(Text),
     Exit,
     /// The field is an alias: the operation is to be asked of that field.
-    Hop { to: Ref, name: Name },
+    Hop {
+        to: Ref,
+        name: Name,
+    },
     /// The object that was copied.
-    Object { flags: Flags, fields: Items<WireField> },
+    Object {
+        flags: Flags,
+        fields: Items<WireField>,
+    },
 }
 
 /// The object of the innermost method that a thread is in, by how that method was entered.

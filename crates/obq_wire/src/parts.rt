@@ -125,7 +125,13 @@ pub(crate) fn flags_of(bytes: &[u8]) -> Result<(Flags, &[u8]), Refused>
         [3, rest @ ..] => (true, true, rest),
         _ => return Err(Refused::Bad { left: bytes.len() }),
     };
-    Ok((Flags { protected, serialized }, rest))
+    Ok((
+        Flags {
+            protected,
+            serialized,
+        },
+        rest,
+    ))
 }
 
 #[tactic(auto, unfolding(crate::specs::Reading::depth_at))]

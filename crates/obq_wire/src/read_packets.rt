@@ -72,7 +72,14 @@ fn operation_of<'a>(
             let (object, rest) = cell_of(Kind::Object, rest)?;
             let (name, rest) = name_of(alloc, rest)?;
             let (arguments, rest) = values_of(alloc, table, rest)?;
-            Ok((Operation::Call { object, name, arguments }, rest))
+            Ok((
+                Operation::Call {
+                    object,
+                    name,
+                    arguments,
+                },
+                rest,
+            ))
         }
         SET => {
             let (object, rest) = cell_of(Kind::Object, rest)?;
@@ -102,7 +109,14 @@ fn operation_of<'a>(
             let (array, rest) = cell_of(Kind::Array, rest)?;
             let (index, rest) = integer_of(rest)?;
             let (value, rest) = value_of(alloc, table, rest)?;
-            Ok((Operation::ArraySet { array, index, value }, rest))
+            Ok((
+                Operation::ArraySet {
+                    array,
+                    index,
+                    value,
+                },
+                rest,
+            ))
         }
         VAR_GET => {
             let (variable, rest) = cell_of(Kind::Variable, rest)?;

@@ -9,8 +9,8 @@ use crate::tags::{
     IMPORT, JOIN, LINE, PUT, REDIRECT, SET, SIGNAL, VAR_GET, VAR_SET,
 };
 use crate::write_values::{
-    put_body, put_closure, put_count, put_fields, put_integer, put_reference, put_string, put_truth,
-    put_u16, put_u32, put_u64, put_value, put_values,
+    put_body, put_closure, put_count, put_fields, put_integer, put_reference, put_string,
+    put_truth, put_u16, put_u32, put_u64, put_value, put_values,
 };
 use obq_base::{Flags, NoMemory, ThreadId};
 
@@ -23,7 +23,11 @@ fn put_operation(out: &mut Vec<u8>, x: &Operation) -> Result<(), NoMemory>
             put_reference(out, *object)?;
             put_string(out, name.as_bytes())
         }
-        Operation::Call { object, name, arguments } => {
+        Operation::Call {
+            object,
+            name,
+            arguments,
+        } => {
             out.push(CALL)?;
             put_reference(out, *object)?;
             put_string(out, name.as_bytes())?;
@@ -53,7 +57,11 @@ fn put_operation(out: &mut Vec<u8>, x: &Operation) -> Result<(), NoMemory>
             out.push(ARRAY_SIZE)?;
             put_reference(out, *array)
         }
-        Operation::ArraySet { array, index, value } => {
+        Operation::ArraySet {
+            array,
+            index,
+            value,
+        } => {
             out.push(ARRAY_SET)?;
             put_reference(out, *array)?;
             put_integer(out, *index)?;
@@ -171,7 +179,13 @@ fn put_current(out: &mut Vec<u8>, x: Current) -> Result<(), NoMemory>
     }
 }
 
-fn put_head(out: &mut Vec<u8>, thread: ThreadId, call: u64, used: u32, made: u64) -> Result<(), NoMemory>
+fn put_head(
+    out: &mut Vec<u8>,
+    thread: ThreadId,
+    call: u64,
+    used: u32,
+    made: u64,
+) -> Result<(), NoMemory>
     ensures { OnOk result (out.new.items ≡ out.old.items ++ head thread call used made) }
 {
     put_u32(out, thread.0)?;

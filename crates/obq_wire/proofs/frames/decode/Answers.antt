@@ -1,4 +1,4 @@
-use Rattle.std.proofs.Common.{subst, arith, Ok}
+use Rattle.std.proofs.Common.{subst, arith}
 use Rattle.obq_wire.specs.Frames.{Answers}
 use Rattle.obq_wire.proofs.FrameLaws.{answer_found, spelled_again}
 use Rattle.obq_wire.proofs.frames.decode.Goals as goal

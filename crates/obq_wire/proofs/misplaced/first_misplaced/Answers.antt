@@ -1,5 +1,4 @@
-use Rattle.std.proofs.Common.{ℕ, ◌<◌, List, length, All, sym, subst, ◌∙◌}
-use Rattle.std.specs.List.{AllByRecursion}
+use Rattle.std.proofs.Common.{◌<◌, List, length, sym, subst}
 use Rattle.std.proofs.lemmas.List.Elements.{All-from_recursion}
 use Rattle.obq_wire.specs.declared.values.TableEntry.{TableEntry}
 use Rattle.obq_wire.specs.Order.{packet_needs}
@@ -14,4 +13,4 @@ agreement-requires-clause-earlier c = subst (λ (table : List TableEntry). Needs
 pub agreement-requires-clause-roots : goal.agreement-requires-clause-roots
 agreement-requires-clause-roots c =
     rw (c.entries-table.ensures, c.as_slice.ensures.value, c.in_ok-roots.ensures)
-        (All-from_recursion (λ i. i < length (table_of c.args.packet.now)) (packet_needs c.args.packet.now) (roots_below c.args.packet.now c.requires))
+    (All-from_recursion (λ i. i < length (table_of c.args.packet.now)) (packet_needs c.args.packet.now) (roots_below c.args.packet.now c.requires))

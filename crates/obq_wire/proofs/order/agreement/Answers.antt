@@ -1,4 +1,4 @@
-use Rattle.std.proofs.Common.{◌≡◌, [], ◌∷◌, List, length, get_or, drop, suc, ℕ, subst, drop-cons, sym}
+use Rattle.std.proofs.Common.{◌≡◌, [], List, length, get_or, drop, suc, ℕ, subst, drop-cons, sym}
 use Rattle.std.proofs.lemmas.List.{drop_all}
 use Rattle.std.specs.Prelude.{fold}
 use Rattle.obq_wire.specs.Order.{order, placed}
@@ -14,8 +14,8 @@ returns-in-Other c =
     let f = placed table (length table) in
     let xs = numbers_below c.loop-root.count in
     agrees_later table (length table) c.in-Other.next (get_or roots i 0) xs (drop (suc i) roots) (order table roots)
-        (rw c.in-Other.is at c.in_ok-next.ensures)
-        (subst (λ (is : List ℕ). fold f xs is ≡ order table roots) (drop-cons roots i 0 c.loop-root-test.true) c.loop-root.invariant)
+    (rw c.in-Other.is at c.in_ok-next.ensures)
+    (subst (λ (is : List ℕ). fold f xs is ≡ order table roots) (drop-cons roots i 0 c.loop-root-test.true) c.loop-root.invariant)
 
 pub returns : goal.returns
 returns c =
@@ -23,4 +23,4 @@ returns c =
     let roots = c.args.roots.now in
     let none : drop c.loop-root.root-index roots ≡ [] = drop_all c.loop-root.root-index roots c.loop-root-test.false in
     agrees_all c.loop-root.count (order table roots)
-        (sym (subst (λ (is : List ℕ). fold (placed table (length table)) (numbers_below c.loop-root.count) is ≡ order table roots) none c.loop-root.invariant))
+    (sym (subst (λ (is : List ℕ). fold (placed table (length table)) (numbers_below c.loop-root.count) is ≡ order table roots) none c.loop-root.invariant))

@@ -1,4 +1,4 @@
-use Rattle.std.proofs.Common.{◌≡◌, ◌∷◌, [], ◌++◌, List, subst}
+use Rattle.std.proofs.Common.{List, subst}
 use Rattle.std.specs.List.{AllByRecursion}
 use Rattle.obq_wire.specs.declared.order.Begun.{Begun}
 use Rattle.obq_wire.specs.Walk.{IsBegun}
@@ -17,4 +17,4 @@ loop-init c = rw (c.in_ok-push.ensures.items, c.new-begun.ensures.items) (record
 pub step-requires-clause-innermost : goal.step-requires-clause-innermost
 step-requires-clause-innermost c =
     all_last (IsBegun c.args.table.now) c.pop.new.self.items c.in-Some.innermost
-        (subst (λ (bs : List Begun). AllByRecursion (IsBegun c.args.table.now) bs) c.in-Some.ensures.items c.loop.invariant.fit)
+    (subst (λ (bs : List Begun). AllByRecursion (IsBegun c.args.table.now) bs) c.in-Some.ensures.items c.loop.invariant.fit)

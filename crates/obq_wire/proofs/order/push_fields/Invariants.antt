@@ -1,6 +1,6 @@
 use Rattle.std.proofs.Common.{◌≡◌, ◌++◌, take}
 use Rattle.std.specs.List.{flat_map}
-use Rattle.obq_wire.specs.Order.{value_needs, body_needs}
+use Rattle.obq_wire.specs.Order.{body_needs}
 use Rattle.obq_wire.proofs.order.push_fields.Given as goal
 
 abbrev pub invariant-loop-f : goal.invariant-loop-f
