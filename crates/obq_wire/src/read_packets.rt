@@ -53,6 +53,25 @@ fn put_of(alloc: Global, bytes: &[u8]) -> Result<(Operation, &[u8]), Refused>
     Ok((Operation::Put { writer, text }, rest))
 }
 
+// An arm for each operation: its number, and its fields in order, each with what reads it. What is read by a function of its
+// own comes first.
+macro_rules! read_operation {
+    ($tag:expr, $bytes:expr, $first:expr;
+        [$($whole:ident => $by:expr),*]
+        $($number:ident => $name:ident { $($field:ident: $read:ident($($argument:expr),*)),* },)*
+    ) => {
+        match $tag {
+            $($whole => $by,)*
+            $($number => {
+                let rest = $first;
+                $(let ($field, rest) = $read($($argument,)* rest)?;)*
+                Ok((Operation::$name { $($field),* }, rest))
+            })*
+            _ => Err(Refused::Bad { left: $bytes.len() }),
+        }
+    };
+}
+
 #[tactic(auto, unfolding(crate::specs::Reading::operation_at))]
 fn operation_of<'a>(
     alloc: Global,
@@ -61,111 +80,27 @@ fn operation_of<'a>(
 ) -> Result<(Operation, &'a [u8]), Refused>
     ensures { Gives (λ x. (x.0, x.1.now)) result (operation_at table.now bytes.now) }
 {
-    let (tag, rest) = byte_of(bytes)?;
-    match tag {
-        GET => {
-            let (object, rest) = cell_of(Kind::Object, rest)?;
-            let (name, rest) = name_of(alloc, rest)?;
-            Ok((Operation::Get { object, name }, rest))
-        }
-        CALL => {
-            let (object, rest) = cell_of(Kind::Object, rest)?;
-            let (name, rest) = name_of(alloc, rest)?;
-            let (arguments, rest) = values_of(alloc, table, rest)?;
-            Ok((
-                Operation::Call {
-                    object,
-                    name,
-                    arguments,
-                },
-                rest,
-            ))
-        }
-        SET => {
-            let (object, rest) = cell_of(Kind::Object, rest)?;
-            let (name, rest) = name_of(alloc, rest)?;
-            let (body, rest) = body_of(alloc, table, rest)?;
-            Ok((Operation::Set { object, name, body }, rest))
-        }
-        COPY => {
-            let (object, rest) = cell_of(Kind::Object, rest)?;
-            Ok((Operation::Copy { object }, rest))
-        }
-        REDIRECT => {
-            let (object, rest) = cell_of(Kind::Object, rest)?;
-            let (target, rest) = cell_of(Kind::Object, rest)?;
-            Ok((Operation::Redirect { object, target }, rest))
-        }
-        ARRAY_ITEM => {
-            let (array, rest) = cell_of(Kind::Array, rest)?;
-            let (index, rest) = integer_of(rest)?;
-            Ok((Operation::ArrayItem { array, index }, rest))
-        }
-        ARRAY_SIZE => {
-            let (array, rest) = cell_of(Kind::Array, rest)?;
-            Ok((Operation::ArraySize { array }, rest))
-        }
-        ARRAY_SET => {
-            let (array, rest) = cell_of(Kind::Array, rest)?;
-            let (index, rest) = integer_of(rest)?;
-            let (value, rest) = value_of(alloc, table, rest)?;
-            Ok((
-                Operation::ArraySet {
-                    array,
-                    index,
-                    value,
-                },
-                rest,
-            ))
-        }
-        VAR_GET => {
-            let (variable, rest) = cell_of(Kind::Variable, rest)?;
-            Ok((Operation::VarGet { variable }, rest))
-        }
-        VAR_SET => var_set_of(alloc, table, rest),
-        PUT => put_of(alloc, rest),
-        JOIN => {
-            let (thread, rest) = thread_of(rest)?;
-            Ok((Operation::Join { thread }, rest))
-        }
-        LINE => {
-            let (condition, rest) = cell_of(Kind::Condition, rest)?;
-            let (object, rest) = cell_of(Kind::Object, rest)?;
-            Ok((Operation::Line { condition, object }, rest))
-        }
-        GIVE_UP => {
-            let (object, rest) = cell_of(Kind::Object, rest)?;
-            Ok((Operation::GiveUp { object }, rest))
-        }
-        AGAIN => {
-            let (object, rest) = cell_of(Kind::Object, rest)?;
-            let (condition, rest) = cell_of(Kind::Condition, rest)?;
-            Ok((Operation::Again { object, condition }, rest))
-        }
-        SIGNAL => {
-            let (condition, rest) = cell_of(Kind::Condition, rest)?;
-            Ok((Operation::Signal { condition }, rest))
-        }
-        BROADCAST => {
-            let (condition, rest) = cell_of(Kind::Condition, rest)?;
-            Ok((Operation::Broadcast { condition }, rest))
-        }
-        EXPORT => {
-            let (name, rest) = text_of(alloc, rest)?;
-            let (value, rest) = value_of(alloc, table, rest)?;
-            Ok((Operation::Export { name, value }, rest))
-        }
-        IMPORT => {
-            let (name, rest) = text_of(alloc, rest)?;
-            let (engine, rest) = truth_of(rest)?;
-            Ok((Operation::Import { name, engine }, rest))
-        }
-        ENGINE => {
-            let (engine, rest) = cell_of(Kind::Engine, rest)?;
-            let (procedure, rest) = procedure_of(table, rest)?;
-            Ok((Operation::Engine { engine, procedure }, rest))
-        }
-        _ => Err(Refused::Bad { left: bytes.len() }),
+    let (tag, behind) = byte_of(bytes)?;
+    read_operation! { tag, bytes, behind;
+        [VAR_SET => var_set_of(alloc, table, behind), PUT => put_of(alloc, behind)]
+        GET => Get { object: cell_of(Kind::Object), name: name_of(alloc) },
+        CALL => Call { object: cell_of(Kind::Object), name: name_of(alloc), arguments: values_of(alloc, table) },
+        SET => Set { object: cell_of(Kind::Object), name: name_of(alloc), body: body_of(alloc, table) },
+        COPY => Copy { object: cell_of(Kind::Object) },
+        REDIRECT => Redirect { object: cell_of(Kind::Object), target: cell_of(Kind::Object) },
+        ARRAY_ITEM => ArrayItem { array: cell_of(Kind::Array), index: integer_of() },
+        ARRAY_SIZE => ArraySize { array: cell_of(Kind::Array) },
+        ARRAY_SET => ArraySet { array: cell_of(Kind::Array), index: integer_of(), value: value_of(alloc, table) },
+        VAR_GET => VarGet { variable: cell_of(Kind::Variable) },
+        JOIN => Join { thread: thread_of() },
+        LINE => Line { condition: cell_of(Kind::Condition), object: cell_of(Kind::Object) },
+        GIVE_UP => GiveUp { object: cell_of(Kind::Object) },
+        AGAIN => Again { object: cell_of(Kind::Object), condition: cell_of(Kind::Condition) },
+        SIGNAL => Signal { condition: cell_of(Kind::Condition) },
+        BROADCAST => Broadcast { condition: cell_of(Kind::Condition) },
+        EXPORT => Export { name: text_of(alloc), value: value_of(alloc, table) },
+        IMPORT => Import { name: text_of(alloc), engine: truth_of() },
+        ENGINE => Engine { engine: cell_of(Kind::Engine), procedure: procedure_of(table) },
     }
 }
 
