@@ -107,51 +107,29 @@ fn agrees(alloc: Global, bytes: &[u8]) -> Result<bool, Fail> {
 }
 
 fn is_refused(alloc: Global, bytes: &[u8]) -> bool {
-    match decode(alloc, bytes) {
-        Err(WireRefused::BadFrame { .. }) => true,
-        _ => false,
-    }
+    matches!(decode(alloc, bytes), Err(WireRefused::BadFrame { .. }))
 }
 
-fn agrees_changed(alloc: Global, bytes: &mut Vec<u8>, at: usize, value: u8) -> Result<bool, Fail> {
-    let Some(byte) = bytes.get_mut(at) else {
-        return Ok(false);
-    };
-    let before = *byte;
-    *byte = value;
-    let agreed = agrees(alloc, bytes.as_slice())?;
-    if let Some(byte) = bytes.get_mut(at) {
-        *byte = before;
+fn agrees_changed(alloc: Global, bytes: &[u8], at: usize, value: u8) -> Result<bool, Fail> {
+    let mut changed = Vec::from_slice(alloc, bytes)?;
+    if let Some(byte) = changed.get_mut(at) {
+        *byte = value;
     }
-    Ok(agreed)
+    agrees(alloc, changed.as_slice())
 }
 
 // The frame itself, each shorter one, one that is a byte longer, and those with one byte changed.
 fn agrees_nearby(alloc: Global, digits: &str) -> Result<bool, Fail> {
     let mut bytes = bytes_of(alloc, digits)?;
-    if is_refused(alloc, bytes.as_slice()) || !agrees(alloc, bytes.as_slice())? {
-        return Ok(false);
-    }
-    let len = bytes.len();
-    for at in 0..len {
-        let Some(front) = bytes.get(..at) else {
-            return Ok(false);
-        };
-        if !is_refused(alloc, front) {
-            return Ok(false);
-        }
-        let Some(byte) = bytes.get(at) else {
-            return Ok(false);
-        };
-        let next = byte.wrapping_add(1);
-        for value in [0, 1, 255, next] {
-            if !agrees_changed(alloc, &mut bytes, at, value)? {
-                return Ok(false);
-            }
+    let mut agreed = !is_refused(alloc, &bytes) && agrees(alloc, &bytes)?;
+    for at in 0..bytes.len() {
+        agreed = agreed && is_refused(alloc, &bytes[..at]);
+        for value in [0, 1, 255, bytes[at].wrapping_add(1)] {
+            agreed = agreed && agrees_changed(alloc, &bytes, at, value)?;
         }
     }
     bytes.push(0)?;
-    Ok(is_refused(alloc, bytes.as_slice()))
+    Ok(agreed && is_refused(alloc, &bytes))
 }
 
 #[test]
@@ -170,7 +148,7 @@ fn frames_are_read_and_written(rt: HostRuntime) -> Result<(), Fail> {
         let bytes = bytes_of(alloc, digits)?;
         let place = place.parse::<u64>().ok().ok_or("a place")?;
         assert_eq!(rt;
-            decode(alloc, bytes.as_slice()).err(),
+            decode(alloc, &bytes).err(),
             Some(WireRefused::BadFrame { place })
         );
     }

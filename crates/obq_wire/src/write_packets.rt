@@ -1,128 +1,67 @@
 //! Writes operations, outcomes and packets.
 
-ghost use Rattle.std.specs.Prelude.{◌≡◌, ◌++◌, OnOk};
-ghost use Rattle.obq_wire.specs.Spelling.{before_entries, behind_entries, current, flags_number, head, operation, outcome};
+ghost use Rattle.std.specs.Prelude.{◌≡◌, ◌++◌, ◌∷◌, OnOk};
+ghost use Rattle.obq_wire.specs.Spelling.{before_entries, behind_entries, closure, current, flags_number, head, operation, outcome};
 
 use crate::packets::{Current, Operation, Outcome, Packet};
 use crate::tags::{
     AGAIN, ARRAY_ITEM, ARRAY_SET, ARRAY_SIZE, BROADCAST, CALL, COPY, ENGINE, EXPORT, GET, GIVE_UP,
     IMPORT, JOIN, LINE, PUT, REDIRECT, SET, SIGNAL, VAR_GET, VAR_SET,
 };
+use crate::values::TableMember;
 use crate::write_values::{
     put_body, put_closure, put_count, put_fields, put_integer, put_reference, put_string,
     put_truth, put_u16, put_u32, put_u64, put_value, put_values,
 };
 use obq_base::{Flags, NoMemory, ThreadId};
 
+// A value that is a closure.
+fn put_procedure(out: &mut Vec<u8>, m: TableMember) -> Result<(), NoMemory>
+    ensures { OnOk result (out.new.items ≡ out.old.items ++ (5 ∷ closure m)) }
+{
+    out.push(5)?;
+    put_closure(out, m)
+}
+
+// An arm for each operation: its fields in order, each with what writes it, and its number.
+macro_rules! write_operation {
+    ($out:expr, $operation:expr;
+        $($name:ident { $($field:ident: $put:ident($value:expr)),* } => $number:ident,)*
+    ) => {
+        match $operation {
+            $(Operation::$name { $($field),* } => {
+                $out.push($number)?;
+                $($put($out, $value)?;)*
+                Ok(())
+            })*
+        }
+    };
+}
+
 fn put_operation(out: &mut Vec<u8>, x: &Operation) -> Result<(), NoMemory>
     ensures { OnOk result (out.new.items ≡ out.old.items ++ operation x.now) }
 {
-    match x {
-        Operation::Get { object, name } => {
-            out.push(GET)?;
-            put_reference(out, *object)?;
-            put_string(out, name.as_bytes())
-        }
-        Operation::Call {
-            object,
-            name,
-            arguments,
-        } => {
-            out.push(CALL)?;
-            put_reference(out, *object)?;
-            put_string(out, name.as_bytes())?;
-            put_values(out, arguments.as_slice())
-        }
-        Operation::Set { object, name, body } => {
-            out.push(SET)?;
-            put_reference(out, *object)?;
-            put_string(out, name.as_bytes())?;
-            put_body(out, body)
-        }
-        Operation::Copy { object } => {
-            out.push(COPY)?;
-            put_reference(out, *object)
-        }
-        Operation::Redirect { object, target } => {
-            out.push(REDIRECT)?;
-            put_reference(out, *object)?;
-            put_reference(out, *target)
-        }
-        Operation::ArrayItem { array, index } => {
-            out.push(ARRAY_ITEM)?;
-            put_reference(out, *array)?;
-            put_integer(out, *index)
-        }
-        Operation::ArraySize { array } => {
-            out.push(ARRAY_SIZE)?;
-            put_reference(out, *array)
-        }
-        Operation::ArraySet {
-            array,
-            index,
-            value,
-        } => {
-            out.push(ARRAY_SET)?;
-            put_reference(out, *array)?;
-            put_integer(out, *index)?;
-            put_value(out, value)
-        }
-        Operation::VarGet { variable } => {
-            out.push(VAR_GET)?;
-            put_reference(out, *variable)
-        }
-        Operation::VarSet { variable, value } => {
-            out.push(VAR_SET)?;
-            put_reference(out, *variable)?;
-            put_value(out, value)
-        }
-        Operation::Put { writer, text } => {
-            out.push(PUT)?;
-            put_reference(out, *writer)?;
-            put_string(out, text.as_bytes())
-        }
-        Operation::Join { thread } => {
-            out.push(JOIN)?;
-            put_u32(out, thread.0)
-        }
-        Operation::Line { condition, object } => {
-            out.push(LINE)?;
-            put_reference(out, *condition)?;
-            put_reference(out, *object)
-        }
-        Operation::GiveUp { object } => {
-            out.push(GIVE_UP)?;
-            put_reference(out, *object)
-        }
-        Operation::Again { object, condition } => {
-            out.push(AGAIN)?;
-            put_reference(out, *object)?;
-            put_reference(out, *condition)
-        }
-        Operation::Signal { condition } => {
-            out.push(SIGNAL)?;
-            put_reference(out, *condition)
-        }
-        Operation::Broadcast { condition } => {
-            out.push(BROADCAST)?;
-            put_reference(out, *condition)
-        }
-        Operation::Export { name, value } => {
-            out.push(EXPORT)?;
-            put_string(out, name.as_bytes())?;
-            put_value(out, value)
-        }
-        Operation::Import { name, engine } => {
-            out.push(IMPORT)?;
-            put_string(out, name.as_bytes())?;
-            put_truth(out, *engine)
-        }
-        Operation::Engine { engine, procedure } => {
-            out.push(ENGINE)?;
-            put_reference(out, *engine)?;
-            out.push(5)?;
-            put_closure(out, *procedure)
-        }
+    write_operation! { out, x;
+        Get { object: put_reference(*object), name: put_string(name.as_bytes()) } => GET,
+        Call { object: put_reference(*object), name: put_string(name.as_bytes()), arguments: put_values(arguments.as_slice()) } => CALL,
+        Set { object: put_reference(*object), name: put_string(name.as_bytes()), body: put_body(body) } => SET,
+        Copy { object: put_reference(*object) } => COPY,
+        Redirect { object: put_reference(*object), target: put_reference(*target) } => REDIRECT,
+        ArrayItem { array: put_reference(*array), index: put_integer(*index) } => ARRAY_ITEM,
+        ArraySize { array: put_reference(*array) } => ARRAY_SIZE,
+        ArraySet { array: put_reference(*array), index: put_integer(*index), value: put_value(value) } => ARRAY_SET,
+        VarGet { variable: put_reference(*variable) } => VAR_GET,
+        VarSet { variable: put_reference(*variable), value: put_value(value) } => VAR_SET,
+        Put { writer: put_reference(*writer), text: put_string(text.as_bytes()) } => PUT,
+        Join { thread: put_u32(thread.0) } => JOIN,
+        Line { condition: put_reference(*condition), object: put_reference(*object) } => LINE,
+        GiveUp { object: put_reference(*object) } => GIVE_UP,
+        Again { object: put_reference(*object), condition: put_reference(*condition) } => AGAIN,
+        Signal { condition: put_reference(*condition) } => SIGNAL,
+        Broadcast { condition: put_reference(*condition) } => BROADCAST,
+        Export { name: put_string(name.as_bytes()), value: put_value(value) } => EXPORT,
+        Import { name: put_string(name.as_bytes()), engine: put_truth(*engine) } => IMPORT,
+        Engine { engine: put_reference(*engine), procedure: put_procedure(*procedure) } => ENGINE,
     }
 }
 
