@@ -3,7 +3,7 @@ use Rattle.std.specs.Prelude.{List, Option, Some, None, [], ◌∷◌, ◌++◌,
 use Rattle.std.proofs.Common.{ap, sym, ◌∙◌}
 use Rattle.obq_model.specs.Terms.{Lined, Out, Term, Form, Part, End}
 use Rattle.obq_model.specs.Store.{same_loc}
-use Rattle.obq_model.specs.Step.{no_self, Operation, New, Get, CallMethod, Leave, Set, Copy, RedirectTo, GetItem, GetSize, EachSize, EachItem, SetItem, ReadVariable, SetVariable, Write, ForkOff, JoinWith, LineUp, GiveUp, Again, Signal, Broadcast, Export, Import, RunEngine, Frame, plug, Found, Needs, find}
+use Rattle.obq_model.specs.Step.{no_self, Operation, GiveUp, Again, Frame, plug, Found, Needs, find}
 use Rattle.obq_model.specs.Config.{Running, Returned, Failed, ThreadState, Config}
 use Rattle.obq_model.specs.Maps.{map_operation}
 use Rattle.obq_model.specs.Frames.{lifted, lifted_all}
@@ -19,31 +19,9 @@ use Rattle.obq_stands.proofs.Moves.{out_running}
 use Rattle.obq_stands.proofs.Events.{found_op}
 
 pub map_sleep : {R S : Type 0} (f : R → S) (op : Operation R) → sleep_of (map_operation f op) ≡ option_map (λ p. (f p.0, f p.1)) (sleep_of op)
-map_sleep f (New cell after) = refl
-map_sleep f (Get o x) = refl
-map_sleep f (CallMethod o x vs) = refl
-map_sleep f (Leave o out) = refl
-map_sleep f (Set o x body) = refl
-map_sleep f (Copy o first copied rest) = refl
-map_sleep f (RedirectTo o target) = refl
-map_sleep f (GetItem o i) = refl
-map_sleep f (GetSize o) = refl
-map_sleep f (EachSize o scope) = refl
-map_sleep f (EachItem o i n scope) = refl
-map_sleep f (SetItem o i v) = refl
-map_sleep f (ReadVariable o) = refl
-map_sleep f (SetVariable o v) = refl
-map_sleep f (Write o text) = refl
-map_sleep f (ForkOff v) = refl
-map_sleep f (JoinWith u) = refl
-map_sleep f (LineUp p o guard) = refl
 map_sleep f (GiveUp o q guard) = refl
 map_sleep f (Again p q guard) = refl
-map_sleep f (Signal o) = refl
-map_sleep f (Broadcast o) = refl
-map_sleep f (Export x v) = refl
-map_sleep f (Import x engine) = refl
-map_sleep f (RunEngine o v) = refl
+map_sleep f op = refl
 
 abbrev term_in : Term ℕ → Option ThreadState → Term ℕ
 term_in d None = d
