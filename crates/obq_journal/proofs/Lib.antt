@@ -1,0 +1,4 @@
+mod Cuts
+mod Entries
+mod TooMany
+mod Numbers
