@@ -2,3 +2,5 @@ mod Cuts
 mod Entries
 mod TooMany
 mod Numbers
+mod Parts
+mod ReadBack
