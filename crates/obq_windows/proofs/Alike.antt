@@ -10,6 +10,7 @@ use Rattle.obq_model.specs.Depth.{is_too_deep}
 use Rattle.obq_model.specs.Draft.{Both, Plain, behind_first, called_row, captured_by, count_arms, count_exprs, count_suffixes, draft_arms, draft_expr, draft_maybe, draft_suffixes, field_names, has_block, operators_of}
 use Rattle.obq_model.specs.Occurrences.{free_procedure}
 use Rattle.obq_model.specs.Opened.{open_block}
+use Rattle.obq_model.specs.Procedures.{Proc}
 use Rattle.obq_model.specs.Reading.{hide, read}
 use Rattle.obq_model.specs.Scopes.{Outside, inside, slot_of, slots_of}
 use Rattle.obq_model.specs.Terms.{Bytes, ExitUp}
@@ -18,7 +19,7 @@ use Rattle.obq_model.proofs.Drafted.{drafted_block, drafted_expr, drafted_suffix
 use Rattle.obq_model.proofs.Finds.{row_called}
 use Rattle.obq_model.proofs.Occurring.{captured_covered}
 use Rattle.obq_windows.specs.Agrees.{Agrees, FramesAre, IsBound, Same, StandsAt, place_at}
-use Rattle.obq_windows.specs.Complete.{DepthLaw}
+use Rattle.obq_windows.specs.Complete.{PlaceLaw}
 use Rattle.obq_windows.specs.Trees.{BlockTask, Bound, ExprTask, HintExpr, PendingChain, PendingFirst, PendingHead, PendingIf, PendingLast, PendingLoop, PendingRaise, PendingTry, Place, Silent, Stepped, Tag, ToArray, ToBuiltin, TreeFrame, TreeMoved, TreeRaising, TreeRun, TreeValue, begin_args, begin_expr, begin_if, begin_proc, begin_suffixes, bound_names, captured_values, env_at, going_on, outside_at, push, tree_made, tree_moved, tree_raises, with_suffixes, writer_at}
 use Rattle.obq_windows.specs.Values.{ClosureValue, IntValue, OkayValue, PlainValues, Table, TextValue, TruthValue, depth_of_values}
 use Rattle.obq_windows.specs.Windows.{Activation, NodeChain, NodeFirst, NodeFrame, NodeHead, NodeIf, NodeLast, NodeLoop, NodeMoved, NodeRaise, NodeRaising, NodeRun, NodeTry, NodeValue, Store, arms_node, begin_node, item_node, node_at, node_made, node_moved, node_raises, suffixes_node, with_item, with_operator, with_suffix}
@@ -53,19 +54,19 @@ chain_alike T S g act b bound w ns fs fr at e (ALink op e2 place links) h =
     (suc at, refl, (bound, refl, w), first_of T S (next_here T S h))
 
 -- a procedure literal
-proc_alike : {R : Type 0} → (T : Table R) (S : Store R) → Agrees T S → (a thread count : ℕ) (act : Activation R) (b : ℕ) (bound : List (Bound R)) → DepthLaw T (place_at act bound) → IsBound act b bound → (ns : List (NodeFrame R)) (fs : List (TreeFrame R)) → FramesAre T S act b ns fs → (at : ℕ) (params : List Bytes) (block : BlockTree) (place : ℕ)
+proc_alike : {R : Type 0} → (T : Table R) (S : Store R) → Agrees T S → (a thread count : ℕ) (act : Activation R) (b : ℕ) (bound : List (Bound R)) → PlaceLaw T (place_at act bound) → IsBound act b bound → (ns : List (NodeFrame R)) (fs : List (TreeFrame R)) → FramesAre T S act b ns fs → (at : ℕ) (params : List Bytes) (block : BlockTree) (place : ℕ)
     → (h : StandsAt T S act.code (draft_expr (outside_at T (place_at act bound)) (bound_names bound) (ProcTree (AProc params block place))) at)
     → Same T S (begin_node S a thread count act ns at b (node_at S act.code at)) (begin_proc T thread count (h.nodes.0 ∷ []) (place_at act bound) (AProc params block place) fs)
 proc_alike {R} T S g a thread count act b bound d w ns fs fr at params block place h =
     at_node T S act.code at (n.Proc h.nodes.0 (slots_of (outside_at T (place_at act bound)) (bound_names bound) (captured_by (outside_at T (place_at act bound)) (bound_names bound) (AProc params block place)))) (begin_node S a thread count act ns at b) _
     (item_here (nodes_of (S.code act.code)) at _ h.nodes.1 h.nodes.2)
-    (subst (λ (vs : PlainValues R). Same T S (if nat_lt 1000 (depth_of_values vs) then node_moved Stepped act ns (node_raises (codes "closure_limit")) else node_made act ns (NodeValue (ClosureValue thread count h.nodes.0 vs))) (begin_proc T thread count (h.nodes.0 ∷ []) (place_at act bound) (AProc params block place) fs))
-    (sym (capture_is T S g act b bound w (captured_by (outside_at T (place_at act bound)) (bound_names bound) (AProc params block place)) (λ x e. captured_covered (outside_at T (place_at act bound)) (bound_names bound) (free_procedure [] (AProc params block place)) x e)))
-    (subst (λ (c : Bool). Same T S (if c then node_moved Stepped act ns (node_raises (codes "closure_limit")) else node_made act ns (NodeValue (ClosureValue thread count h.nodes.0 (captured_values T (place_at act bound) (captured_by (outside_at T (place_at act bound)) (bound_names bound) (AProc params block place))))))
+    (subst (λ (vs : PlainValues R). Same T S (if nat_lt 1000 (depth_of_values vs) then node_moved Stepped act ns (node_raises (codes "closure_limit")) else node_made act ns (NodeValue (ClosureValue thread count (h.nodes.0 ∷ []) 0 vs))) (begin_proc T thread count (h.nodes.0 ∷ []) (place_at act bound) (AProc params block place) fs))
+    (sym (capture_is T S act b bound w d.members (captured_by (outside_at T (place_at act bound)) (bound_names bound) (AProc params block place)) (λ x e. captured_covered (outside_at T (place_at act bound)) (bound_names bound) (free_procedure [] (AProc params block place)) x e)))
+    (subst (λ (c : Bool). Same T S (if c then node_moved Stepped act ns (node_raises (codes "closure_limit")) else node_made act ns (NodeValue (ClosureValue thread count (h.nodes.0 ∷ []) 0 (captured_values T (place_at act bound) (captured_by (outside_at T (place_at act bound)) (bound_names bound) (AProc params block place))))))
     (begin_proc T thread count (h.nodes.0 ∷ []) (place_at act bound) (AProc params block place) fs))
     (sym (d.proc params block place)) (by_depth (is_too_deep (read (hide params (env_at T (place_at act bound))) (open_block (writer_at T (place_at act bound)) (inside (outside_at T (place_at act bound)) [] (captured_by (outside_at T (place_at act bound)) (bound_names bound) (AProc params block place))) params block)))))) where
-      by_depth : (c : Bool) → Same T S (if c then node_moved Stepped act ns (node_raises (codes "closure_limit")) else node_made act ns (NodeValue (ClosureValue thread count h.nodes.0 (captured_values T (place_at act bound) (captured_by (outside_at T (place_at act bound)) (bound_names bound) (AProc params block place))))))
-          (if c then tree_moved Stepped fs (tree_raises (codes "closure_limit")) else tree_made fs (TreeValue (ClosureValue thread count h.nodes.0 (captured_values T (place_at act bound) (captured_by (outside_at T (place_at act bound)) (bound_names bound) (AProc params block place))))))
+      by_depth : (c : Bool) → Same T S (if c then node_moved Stepped act ns (node_raises (codes "closure_limit")) else node_made act ns (NodeValue (ClosureValue thread count (h.nodes.0 ∷ []) 0 (captured_values T (place_at act bound) (captured_by (outside_at T (place_at act bound)) (bound_names bound) (AProc params block place))))))
+          (if c then tree_moved Stepped fs (tree_raises (codes "closure_limit")) else tree_made fs (TreeValue (ClosureValue thread count (h.nodes.0 ∷ []) 0 (captured_values T (place_at act bound) (captured_by (outside_at T (place_at act bound)) (bound_names bound) (AProc params block place))))))
       by_depth true = inr (record { tag = refl; makes = refl; height = b; frames = fr; focus = refl })
       by_depth false = inr (record { tag = refl; makes = refl; height = b; frames = fr; focus = refl })
 
@@ -159,14 +160,14 @@ pub record Begun {R : Type 0} (T : Table R) (S : Store R) (p : Place R) (e : Exp
   pub hint : HintExpr T numbers p e
   pub same : Same T S m (t numbers)
 
-pub expr_alike : {R : Type 0} → (T : Table R) (S : Store R) → Agrees T S → (a thread count : ℕ) (act : Activation R) (b : ℕ) (bound : List (Bound R)) → DepthLaw T (place_at act bound) → IsBound act b bound → (ns : List (NodeFrame R)) (fs : List (TreeFrame R)) → FramesAre T S act b ns fs → (at : ℕ) (e : ExprTree)
+pub expr_alike : {R : Type 0} → (T : Table R) (S : Store R) → Agrees T S → (a thread count : ℕ) (act : Activation R) (b : ℕ) (bound : List (Bound R)) → PlaceLaw T (place_at act bound) → IsBound act b bound → (ns : List (NodeFrame R)) (fs : List (TreeFrame R)) → FramesAre T S act b ns fs → (at : ℕ) (e : ExprTree)
     → StandsAt T S act.code (draft_expr (outside_at T (place_at act bound)) (bound_names bound) e) at
     → Begun T S (place_at act bound) e (begin_node S a thread count act ns at b (node_at S act.code at)) (λ numbers. begin_expr T a thread count numbers (place_at act bound) e fs)
 expr_alike T S g a thread count act b bound d w ns fs fr at (IntTree z place) h = record { numbers = []; hint = tt; same = at_node T S act.code at (n.Int z) (begin_node S a thread count act ns at b) _ (node_here T S h) (alike T S Silent act b ns (NodeValue (IntValue z)) fs (TreeValue (IntValue z)) fr refl) }
 expr_alike T S g a thread count act b bound d w ns fs fr at (TextTree z place) h = record { numbers = []; hint = tt; same = at_node T S act.code at (n.Str z) (begin_node S a thread count act ns at b) _ (node_here T S h) (alike T S Silent act b ns (NodeValue (TextValue z)) fs (TreeValue (TextValue z)) fr refl) }
 expr_alike T S g a thread count act b bound d w ns fs fr at (TruthTree z place) h = record { numbers = []; hint = tt; same = at_node T S act.code at (n.Truth z) (begin_node S a thread count act ns at b) _ (node_here T S h) (alike T S Silent act b ns (NodeValue (TruthValue z)) fs (TreeValue (TruthValue z)) fr refl) }
 expr_alike T S g a thread count act b bound d w ns fs fr at (OkTree place) h = record { numbers = []; hint = tt; same = at_node T S act.code at n.Okay (begin_node S a thread count act ns at b) _ (node_here T S h) (alike T S Silent act b ns (NodeValue OkayValue) fs (TreeValue OkayValue) fr refl) }
-expr_alike T S g a thread count act b bound d w ns fs fr at (NameTree x place) h = record { numbers = []; hint = tt; same = at_node T S act.code at _ (begin_node S a thread count act ns at b) _ (node_here T S h) (name_alike T S g act b bound w ns fs fr x) }
+expr_alike T S g a thread count act b bound d w ns fs fr at (NameTree x place) h = record { numbers = []; hint = tt; same = at_node T S act.code at _ (begin_node S a thread count act ns at b) _ (node_here T S h) (name_alike T S g act b bound w d.members ns fs fr x) }
 expr_alike T S g a thread count act b bound d w ns fs fr at (IfTree arms last place) h = record { numbers = []; hint = tt; same = at_node T S act.code at (n.If (count_arms arms) (has_block last)) (begin_node S a thread count act ns at b) _ (node_here T S h) (arms_alike T S g Silent act b bound w ns fs fr (suc at) arms last (next_here T S h)) }
 expr_alike T S g a thread count act b bound d w ns fs fr at (LoopTree block place) h = record {
   numbers = [];

@@ -1,5 +1,5 @@
 -- Calls: nodes and trees do the same.
-use Rattle.std.specs.Prelude.{Bool, List, None, Option, Some, [], codes, false, if◌then◌else◌, length, nat_lt, refl, suc, take, true, zero, ℕ, ◌≤◌, ◌==◌, ◌∷◌, ◌≡◌}
+use Rattle.std.specs.Prelude.{Bool, List, None, Option, Some, [], codes, false, if◌then◌else◌, length, nat_lt, refl, slice_get, suc, take, true, zero, ℕ, ◌==◌, ◌∷◌, ◌≡◌, ◌≤◌}
 use Rattle.std.proofs.Common.{inl, subst, ap, sym, ◌∙◌, arith}
 use Rattle.obq_base.specs.Tree.{AnExpr, ExprTrees, NoExprs}
 use Rattle.obq_base.specs.declared.code.Code.{Code}
@@ -13,9 +13,9 @@ use Rattle.obq_model.specs.Resolved.{IsCode}
 use Rattle.obq_model.specs.Terms.{Array, Bytes, Condition, Engine, Object, Variable, Writer}
 use Rattle.obq_model.proofs.Drafted.{drafted_expr}
 use Rattle.obq_windows.specs.Agrees.{Agrees, FramesAre, IsBound, Same, StandsAt, place_at}
-use Rattle.obq_windows.specs.Trees.{Asks, Beyond, BlockTask, Bound, Callee, Does, ExprTask, Gives, PendingArguments, PendingCalled, PlainResult, Raises, Silent, Stepped, ToArray, ToBuiltin, ToCall, ToIndex, ToInvoke, TreeFrame, TreeRun, TreeValue, applied, array_made, begin_args, bound_names, bound_values, call_plain, entered, finish_args, indexed, invoked, outside_at, place_of, proc_outside, push, tree_moved, tree_raises, tree_result, zipped}
+use Rattle.obq_windows.specs.Trees.{Asks, Beyond, BlockTask, Bound, Callee, Does, ExprTask, Gives, PendingArguments, PendingCalled, PlainResult, Raises, Silent, Stepped, ToArray, ToBuiltin, ToCall, ToIndex, ToInvoke, TreeFrame, TreeRun, TreeValue, applied, array_made, begin_args, bound_names, bound_values, call_code, call_plain, entered, finish_args, indexed, invoked, outside_at, place_of, proc_outside, push, tree_moved, tree_raises, tree_result, zipped}
 use Rattle.obq_windows.specs.Values.{ClosureValue, ExceptionValue, IntValue, LocationValue, OkayValue, PlainValue, PlainValues, Table, TextValue, ThreadValue, TruthValue}
-use Rattle.obq_windows.specs.Windows.{Activation, NodeArguments, NodeCalled, NodeFrame, NodeRun, NodeValue, Store, activation_of, args_node, call_node_plain, enter_code, finish_node, node_moved, node_raises, node_result}
+use Rattle.obq_windows.specs.Windows.{Activation, NodeArguments, NodeCalled, NodeFrame, NodeRun, NodeValue, Store, activation_of, args_node, call_node_code, call_node_plain, enter_code, finish_node, node_moved, node_raises, node_result}
 use Rattle.obq_windows.proofs.Calls.{same_length}
 use Rattle.obq_windows.proofs.Envs.{zipped_names}
 use Rattle.obq_windows.proofs.Frames.{frames_up, length_values}
@@ -54,21 +54,21 @@ take_length (suc k) (x ∷ l) e = up_one k (length l) (take_length k l (omega (a
 pub in_force : {R : Type 0} → (act : Activation R) (b : ℕ) (bound : List (Bound R)) → IsBound act b bound → b ≤ length act.locals
 in_force act b bound w = take_length b act.locals (ap length w.values ∙ length_values bound ∙ sym w.many)
 
-enter_alike : {R : Type 0} → (T : Table R) (S : Store R) (act : Activation R) (b : ℕ) (bound : List (Bound R)) → IsBound act b bound → (ns : List (NodeFrame R)) (fs : List (TreeFrame R)) → FramesAre T S act b ns fs → (thread count : ℕ) (number : CodeNo) (cs : PlainValues R) (vs : List (PlainValue R))
-    → (c : Option Code) → S.code number ≡ c → IsCodeAt T.procs number c → Same T S (enter_code S thread count number cs c act vs ns) (entered thread count number cs (T.procs number) (place_at act bound) vs fs)
-enter_alike {R} T S act b bound w ns fs fr thread count number cs vs None ce h =
-    subst (λ (o : Option Proc). Same T S (node_moved Stepped act ns (node_raises (codes "type"))) (entered thread count number cs o (place_at act bound) vs fs)) (sym h) (alike T S Stepped act b ns (node_raises (codes "type")) fs (tree_raises (codes "type")) fr refl)
-enter_alike {R} T S act b bound w ns fs fr thread count number cs vs (Some c) ce (q, h) =
-    subst (λ (o : Option Proc). Same T S (enter_code S thread count number cs (Some c) act vs ns) (entered thread count number cs o (place_at act bound) vs fs)) (sym h.proc_is)
-    (subst (λ (m : ℕ). Same T S (if m == length vs then node_moved Stepped (activation_of number thread count cs vs) (NodeCalled act ∷ ns) (NodeRun 0 (length vs)) else node_moved Stepped act ns (node_raises (codes "arity"))) (entered thread count number cs (Some q) (place_at act bound) vs fs)) (sym h.code_is.params_are)
+enter_alike : {R : Type 0} → (T : Table R) (S : Store R) (act : Activation R) (b : ℕ) (bound : List (Bound R)) → IsBound act b bound → (ns : List (NodeFrame R)) (fs : List (TreeFrame R)) → FramesAre T S act b ns fs → (thread count : ℕ) (group : List CodeNo) (number : CodeNo) (cs : PlainValues R) (vs : List (PlainValue R))
+    → (c : Option Code) → S.code number ≡ c → IsCodeAt T.procs number c → Same T S (enter_code S thread count group number cs c act vs ns) (entered thread count group number cs (T.procs number) (place_at act bound) vs fs)
+enter_alike {R} T S act b bound w ns fs fr thread count group number cs vs None ce h =
+    subst (λ (o : Option Proc). Same T S (node_moved Stepped act ns (node_raises (codes "type"))) (entered thread count group number cs o (place_at act bound) vs fs)) (sym h) (alike T S Stepped act b ns (node_raises (codes "type")) fs (tree_raises (codes "type")) fr refl)
+enter_alike {R} T S act b bound w ns fs fr thread count group number cs vs (Some c) ce (q, h) =
+    subst (λ (o : Option Proc). Same T S (enter_code S thread count group number cs (Some c) act vs ns) (entered thread count group number cs o (place_at act bound) vs fs)) (sym h.proc_is)
+    (subst (λ (m : ℕ). Same T S (if m == length vs then node_moved Stepped (activation_of number thread count group cs vs) (NodeCalled act ∷ ns) (NodeRun 0 (length vs)) else node_moved Stepped act ns (node_raises (codes "arity"))) (entered thread count group number cs (Some q) (place_at act bound) vs fs)) (sym h.code_is.params_are)
     (by_arity (length q.params == length vs) refl)) where
       by_arity : (d : Bool) → (length q.params == length vs) ≡ d
-          → Same T S (if d then node_moved Stepped (activation_of number thread count cs vs) (NodeCalled act ∷ ns) (NodeRun 0 (length vs)) else node_moved Stepped act ns (node_raises (codes "arity")))
-          (if d then tree_moved Stepped (push (place_at act bound) PendingCalled fs) (TreeRun (place_of number thread count cs (zipped q.params vs)) (BlockTask q.body)) else tree_moved Stepped fs (tree_raises (codes "arity")))
+          → Same T S (if d then node_moved Stepped (activation_of number thread count group cs vs) (NodeCalled act ∷ ns) (NodeRun 0 (length vs)) else node_moved Stepped act ns (node_raises (codes "arity")))
+          (if d then tree_moved Stepped (push (place_at act bound) PendingCalled fs) (TreeRun (place_of number thread count group cs (zipped q.params vs)) (BlockTask q.body)) else tree_moved Stepped fs (tree_raises (codes "arity")))
       by_arity false e = alike T S Stepped act b ns (node_raises (codes "arity")) fs (tree_raises (codes "arity")) fr refl
       by_arity true e =
           let l : length q.params ≡ length vs = same_length (length q.params) (length vs) e in
-          alike T S Stepped (activation_of number thread count cs vs) (length vs) (NodeCalled act ∷ ns) (NodeRun 0 (length vs)) (push (place_at act bound) PendingCalled fs) (TreeRun (place_of number thread count cs (zipped q.params vs)) (BlockTask q.body))
+          alike T S Stepped (activation_of number thread count group cs vs) (length vs) (NodeCalled act ∷ ns) (NodeRun 0 (length vs)) (push (place_at act bound) PendingCalled fs) (TreeRun (place_of number thread count group cs (zipped q.params vs)) (BlockTask q.body))
           (NodeCalled act, ns, refl, (act, refl), frames_up T S act b (length act.locals) ns fs (in_force act b bound w) fr) (
             0,
             refl,
@@ -84,10 +84,15 @@ enter_alike {R} T S act b bound w ns fs fr thread count number cs vs (Some c) ce
 
 pub call_alike : {R : Type 0} → (T : Table R) (S : Store R) → Agrees T S → (a : ℕ) (act : Activation R) (b : ℕ) (bound : List (Bound R)) → IsBound act b bound → (ns : List (NodeFrame R)) (fs : List (TreeFrame R)) → FramesAre T S act b ns fs → (v : PlainValue R) (vs : List (PlainValue R))
     → Same T S (call_node_plain S a v act vs ns) (call_plain T a v (place_at act bound) vs fs)
-call_alike {R} T S g a act b bound w ns fs fr (ClosureValue thread count number cs) vs = by_limit (nat_lt 999 a) where
-  by_limit : (d : Bool) → Same T S (if d then node_moved Stepped act ns (node_raises (codes "call_limit")) else enter_code S thread count number cs (S.code number) act vs ns) (if d then tree_moved Stepped fs (tree_raises (codes "call_limit")) else entered thread count number cs (T.procs number) (place_at act bound) vs fs)
+call_alike {R} T S g a act b bound w ns fs fr (ClosureValue thread count group index cs) vs = by_limit (nat_lt 999 a) where
+  by_code : (o : Option CodeNo) → Same T S (call_node_code S thread count group cs o act vs ns) (call_code T thread count group cs o (place_at act bound) vs fs)
+  by_code None = alike T S Stepped act b ns (node_raises (codes "type")) fs (tree_raises (codes "type")) fr refl
+  by_code (Some number) = enter_alike T S act b bound w ns fs fr thread count group number cs vs (S.code number) refl (g.code number)
+
+  by_limit : (d : Bool) → Same T S (if d then node_moved Stepped act ns (node_raises (codes "call_limit")) else call_node_code S thread count group cs (slice_get group index) act vs ns)
+      (if d then tree_moved Stepped fs (tree_raises (codes "call_limit")) else call_code T thread count group cs (slice_get group index) (place_at act bound) vs fs)
   by_limit true = alike T S Stepped act b ns (node_raises (codes "call_limit")) fs (tree_raises (codes "call_limit")) fr refl
-  by_limit false = enter_alike T S act b bound w ns fs fr thread count number cs vs (S.code number) refl (g.code number)
+  by_limit false = by_code (slice_get group index)
 call_alike T S g a act b bound w ns fs fr (LocationValue Engine e) vs = inl (refl, refl)
 call_alike T S g a act b bound w ns fs fr (LocationValue Object r) vs = alike T S Stepped act b ns (node_raises (codes "type")) fs (tree_raises (codes "type")) fr refl
 call_alike T S g a act b bound w ns fs fr (LocationValue Array r) vs = alike T S Stepped act b ns (node_raises (codes "type")) fs (tree_raises (codes "type")) fr refl

@@ -62,14 +62,14 @@ to_alike T S act b bound w ns fs fr child x block (IntValue m) OkayValue h = ali
 to_alike T S act b bound w ns fs fr child x block (IntValue m) (TextValue q) h = alike T S Stepped act b ns (node_raises (codes "type")) fs (tree_raises (codes "type")) fr refl
 to_alike T S act b bound w ns fs fr child x block (IntValue m) (ExceptionValue q) h = alike T S Stepped act b ns (node_raises (codes "type")) fs (tree_raises (codes "type")) fr refl
 to_alike T S act b bound w ns fs fr child x block (IntValue m) (ThreadValue q) h = alike T S Stepped act b ns (node_raises (codes "type")) fs (tree_raises (codes "type")) fr refl
-to_alike T S act b bound w ns fs fr child x block (IntValue m) (ClosureValue tq cq cnq csq) h = alike T S Stepped act b ns (node_raises (codes "type")) fs (tree_raises (codes "type")) fr refl
+to_alike T S act b bound w ns fs fr child x block (IntValue m) (ClosureValue tq cq gq iq csq) h = alike T S Stepped act b ns (node_raises (codes "type")) fs (tree_raises (codes "type")) fr refl
 to_alike T S act b bound w ns fs fr child x block (IntValue m) (LocationValue kq q) h = alike T S Stepped act b ns (node_raises (codes "type")) fs (tree_raises (codes "type")) fr refl
 to_alike T S act b bound w ns fs fr child x block (TruthValue y) z h = alike T S Stepped act b ns (node_raises (codes "type")) fs (tree_raises (codes "type")) fr refl
 to_alike T S act b bound w ns fs fr child x block OkayValue z h = alike T S Stepped act b ns (node_raises (codes "type")) fs (tree_raises (codes "type")) fr refl
 to_alike T S act b bound w ns fs fr child x block (TextValue y) z h = alike T S Stepped act b ns (node_raises (codes "type")) fs (tree_raises (codes "type")) fr refl
 to_alike T S act b bound w ns fs fr child x block (ExceptionValue y) z h = alike T S Stepped act b ns (node_raises (codes "type")) fs (tree_raises (codes "type")) fr refl
 to_alike T S act b bound w ns fs fr child x block (ThreadValue y) z h = alike T S Stepped act b ns (node_raises (codes "type")) fs (tree_raises (codes "type")) fr refl
-to_alike T S act b bound w ns fs fr child x block (ClosureValue ty cy cny csy) z h = alike T S Stepped act b ns (node_raises (codes "type")) fs (tree_raises (codes "type")) fr refl
+to_alike T S act b bound w ns fs fr child x block (ClosureValue ty cy gy iy csy) z h = alike T S Stepped act b ns (node_raises (codes "type")) fs (tree_raises (codes "type")) fr refl
 to_alike T S act b bound w ns fs fr child x block (LocationValue ky y) z h = alike T S Stepped act b ns (node_raises (codes "type")) fs (tree_raises (codes "type")) fr refl
 
 pub if_alike : {R : Type 0} → (T : Table R) (S : Store R) → Agrees T S → (act : Activation R) (b : ℕ) (bound : List (Bound R)) → IsBound act b bound → (ns : List (NodeFrame R)) (fs : List (TreeFrame R)) → FramesAre T S act b ns fs → (child : ℕ) (block : BlockTree) (arms : ArmTrees) (last : MaybeBlock) (v : PlainValue R)
@@ -82,7 +82,7 @@ if_alike T S g act b bound w ns fs fr child block arms last OkayValue h = alike 
 if_alike T S g act b bound w ns fs fr child block arms last (TextValue z) h = alike T S Stepped act b ns (node_raises (codes "type")) fs (tree_raises (codes "type")) fr refl
 if_alike T S g act b bound w ns fs fr child block arms last (ExceptionValue z) h = alike T S Stepped act b ns (node_raises (codes "type")) fs (tree_raises (codes "type")) fr refl
 if_alike T S g act b bound w ns fs fr child block arms last (ThreadValue z) h = alike T S Stepped act b ns (node_raises (codes "type")) fs (tree_raises (codes "type")) fr refl
-if_alike T S g act b bound w ns fs fr child block arms last (ClosureValue t c number cs) h = alike T S Stepped act b ns (node_raises (codes "type")) fs (tree_raises (codes "type")) fr refl
+if_alike T S g act b bound w ns fs fr child block arms last (ClosureValue t c group index cs) h = alike T S Stepped act b ns (node_raises (codes "type")) fs (tree_raises (codes "type")) fr refl
 if_alike T S g act b bound w ns fs fr child block arms last (LocationValue k z) h = alike T S Stepped act b ns (node_raises (codes "type")) fs (tree_raises (codes "type")) fr refl
 
 or_alike : {R : Type 0} → (T : Table R) (S : Store R) → (act : Activation R) (b : ℕ) (bound : List (Bound R)) → IsBound act b bound → (ns2 : List (NodeFrame R)) (fs : List (TreeFrame R)) (links : LinkTrees) → FramesAre T S act b ns2 (with_links (place_at act bound) links fs) → (child : ℕ) (e : ExprTree) (v : PlainValue R)
@@ -94,7 +94,7 @@ or_alike T S act b bound w ns2 fs links fr child e OkayValue h = alike T S Stepp
 or_alike T S act b bound w ns2 fs links fr child e (TextValue z) h = alike T S Stepped act b ns2 (node_raises (codes "type")) (with_links (place_at act bound) links fs) (tree_raises (codes "type")) fr refl
 or_alike T S act b bound w ns2 fs links fr child e (ExceptionValue z) h = alike T S Stepped act b ns2 (node_raises (codes "type")) (with_links (place_at act bound) links fs) (tree_raises (codes "type")) fr refl
 or_alike T S act b bound w ns2 fs links fr child e (ThreadValue z) h = alike T S Stepped act b ns2 (node_raises (codes "type")) (with_links (place_at act bound) links fs) (tree_raises (codes "type")) fr refl
-or_alike T S act b bound w ns2 fs links fr child e (ClosureValue t c number cs) h = alike T S Stepped act b ns2 (node_raises (codes "type")) (with_links (place_at act bound) links fs) (tree_raises (codes "type")) fr refl
+or_alike T S act b bound w ns2 fs links fr child e (ClosureValue t c group index cs) h = alike T S Stepped act b ns2 (node_raises (codes "type")) (with_links (place_at act bound) links fs) (tree_raises (codes "type")) fr refl
 or_alike T S act b bound w ns2 fs links fr child e (LocationValue k z) h = alike T S Stepped act b ns2 (node_raises (codes "type")) (with_links (place_at act bound) links fs) (tree_raises (codes "type")) fr refl
 
 and_alike : {R : Type 0} → (T : Table R) (S : Store R) → (act : Activation R) (b : ℕ) (bound : List (Bound R)) → IsBound act b bound → (ns2 : List (NodeFrame R)) (fs : List (TreeFrame R)) (links : LinkTrees) → FramesAre T S act b ns2 (with_links (place_at act bound) links fs) → (child : ℕ) (e : ExprTree) (v : PlainValue R)
@@ -106,7 +106,7 @@ and_alike T S act b bound w ns2 fs links fr child e OkayValue h = alike T S Step
 and_alike T S act b bound w ns2 fs links fr child e (TextValue z) h = alike T S Stepped act b ns2 (node_raises (codes "type")) (with_links (place_at act bound) links fs) (tree_raises (codes "type")) fr refl
 and_alike T S act b bound w ns2 fs links fr child e (ExceptionValue z) h = alike T S Stepped act b ns2 (node_raises (codes "type")) (with_links (place_at act bound) links fs) (tree_raises (codes "type")) fr refl
 and_alike T S act b bound w ns2 fs links fr child e (ThreadValue z) h = alike T S Stepped act b ns2 (node_raises (codes "type")) (with_links (place_at act bound) links fs) (tree_raises (codes "type")) fr refl
-and_alike T S act b bound w ns2 fs links fr child e (ClosureValue t c number cs) h = alike T S Stepped act b ns2 (node_raises (codes "type")) (with_links (place_at act bound) links fs) (tree_raises (codes "type")) fr refl
+and_alike T S act b bound w ns2 fs links fr child e (ClosureValue t c group index cs) h = alike T S Stepped act b ns2 (node_raises (codes "type")) (with_links (place_at act bound) links fs) (tree_raises (codes "type")) fr refl
 and_alike T S act b bound w ns2 fs links fr child e (LocationValue k z) h = alike T S Stepped act b ns2 (node_raises (codes "type")) (with_links (place_at act bound) links fs) (tree_raises (codes "type")) fr refl
 
 left_alike : {R : Type 0} → (T : Table R) (S : Store R) → (act : Activation R) (b : ℕ) (bound : List (Bound R)) → IsBound act b bound → (ns2 : List (NodeFrame R)) (fs : List (TreeFrame R)) (links : LinkTrees) → FramesAre T S act b ns2 (with_links (place_at act bound) links fs) → (child : ℕ) (op : Operator) (e : ExprTree) (v : PlainValue R)
@@ -141,7 +141,7 @@ select_alike T S a act b bound ns2 fs ss fr at x place OkayValue = alike T S Ste
 select_alike T S a act b bound ns2 fs ss fr at x place (TextValue z) = alike T S Stepped act b ns2 (node_raises (codes "type")) (with_suffixes (place_at act bound) ss fs) (tree_raises (codes "type")) fr refl
 select_alike T S a act b bound ns2 fs ss fr at x place (ExceptionValue z) = alike T S Stepped act b ns2 (node_raises (codes "type")) (with_suffixes (place_at act bound) ss fs) (tree_raises (codes "type")) fr refl
 select_alike T S a act b bound ns2 fs ss fr at x place (ThreadValue z) = alike T S Stepped act b ns2 (node_raises (codes "type")) (with_suffixes (place_at act bound) ss fs) (tree_raises (codes "type")) fr refl
-select_alike T S a act b bound ns2 fs ss fr at x place (ClosureValue t c number cs) = alike T S Stepped act b ns2 (node_raises (codes "type")) (with_suffixes (place_at act bound) ss fs) (tree_raises (codes "type")) fr refl
+select_alike T S a act b bound ns2 fs ss fr at x place (ClosureValue t c group index cs) = alike T S Stepped act b ns2 (node_raises (codes "type")) (with_suffixes (place_at act bound) ss fs) (tree_raises (codes "type")) fr refl
 select_alike T S a act b bound ns2 fs ss fr at x place (LocationValue Array z) = alike T S Stepped act b ns2 (node_raises (codes "type")) (with_suffixes (place_at act bound) ss fs) (tree_raises (codes "type")) fr refl
 select_alike T S a act b bound ns2 fs ss fr at x place (LocationValue Variable z) = alike T S Stepped act b ns2 (node_raises (codes "type")) (with_suffixes (place_at act bound) ss fs) (tree_raises (codes "type")) fr refl
 select_alike T S a act b bound ns2 fs ss fr at x place (LocationValue Writer z) = alike T S Stepped act b ns2 (node_raises (codes "type")) (with_suffixes (place_at act bound) ss fs) (tree_raises (codes "type")) fr refl
@@ -187,7 +187,7 @@ guard_alike T S g act b bound w ns fs fr e child block arms last (TruthValue z) 
 guard_alike T S g act b bound w ns fs fr e child block arms last OkayValue h = alike T S Stepped act b ns (node_raises (codes "type")) fs (tree_raises (codes "type")) fr refl
 guard_alike T S g act b bound w ns fs fr e child block arms last (TextValue z) h = alike T S Stepped act b ns (node_raises (codes "type")) fs (tree_raises (codes "type")) fr refl
 guard_alike T S g act b bound w ns fs fr e child block arms last (ThreadValue z) h = alike T S Stepped act b ns (node_raises (codes "type")) fs (tree_raises (codes "type")) fr refl
-guard_alike T S g act b bound w ns fs fr e child block arms last (ClosureValue t c number cs) h = alike T S Stepped act b ns (node_raises (codes "type")) fs (tree_raises (codes "type")) fr refl
+guard_alike T S g act b bound w ns fs fr e child block arms last (ClosureValue t c group index cs) h = alike T S Stepped act b ns (node_raises (codes "type")) fs (tree_raises (codes "type")) fr refl
 guard_alike T S g act b bound w ns fs fr e child block arms last (LocationValue k z) h = alike T S Stepped act b ns (node_raises (codes "type")) fs (tree_raises (codes "type")) fr refl
 guard_alike {R} T S g act b bound w ns fs fr e child block arms last (ExceptionValue z) h = by_text (bytes_eq e z) where
   by_text : (d : Bool) → Same T S (if d then node_moved Stepped act ns (NodeRun child b) else guards_node S e act ns (S.end act.code child) (count_arms arms) (has_block last) b) (if d then tree_moved Stepped fs (TreeRun (place_at act bound) (BlockTask block)) else begin_arms (place_at act bound) e arms last fs)
@@ -200,6 +200,6 @@ raise_alike T S act b ns fs fr (TruthValue z) = alike T S Stepped act b ns (node
 raise_alike T S act b ns fs fr OkayValue = alike T S Stepped act b ns (node_raises (codes "type")) fs (tree_raises (codes "type")) fr refl
 raise_alike T S act b ns fs fr (TextValue z) = alike T S Stepped act b ns (node_raises (codes "type")) fs (tree_raises (codes "type")) fr refl
 raise_alike T S act b ns fs fr (ThreadValue z) = alike T S Stepped act b ns (node_raises (codes "type")) fs (tree_raises (codes "type")) fr refl
-raise_alike T S act b ns fs fr (ClosureValue t c number cs) = alike T S Stepped act b ns (node_raises (codes "type")) fs (tree_raises (codes "type")) fr refl
+raise_alike T S act b ns fs fr (ClosureValue t c group index cs) = alike T S Stepped act b ns (node_raises (codes "type")) fs (tree_raises (codes "type")) fr refl
 raise_alike T S act b ns fs fr (LocationValue k z) = alike T S Stepped act b ns (node_raises (codes "type")) fs (tree_raises (codes "type")) fr refl
 raise_alike T S act b ns fs fr (ExceptionValue z) = alike T S Stepped act b ns (node_raises z) fs (tree_raises z) fr refl

@@ -15,7 +15,7 @@ use Rattle.obq_model.specs.Terms.{Bytes}
 use Rattle.obq_model.proofs.Drafted.{drafted_expr, drafted_item}
 use Rattle.obq_model.proofs.Occurring.{captured_covered}
 use Rattle.obq_windows.specs.Agrees.{Agrees, FramesAre, IsBound, Same, StandsAt, place_at}
-use Rattle.obq_windows.specs.Complete.{DepthLaw}
+use Rattle.obq_windows.specs.Complete.{PlaceLaw}
 use Rattle.obq_windows.specs.Trees.{Bound, ExprTask, HintItems, ItemsTask, PendingLet, PendingThen, Place, Silent, Stepped, Tag, TreeFrame, TreeMoved, TreeRun, TreeValue, begin_binds, begin_block, begin_expr, begin_items, begin_letrec, begin_rest, bound_names, bound_values, captured_values, letrec_parts, member_values, outside_at, push, tree_closed, tree_moved, tree_raises, with_bound}
 use Rattle.obq_windows.specs.Values.{ClosureValue, OkayValue, PlainValues, Table, depth_of_values}
 use Rattle.obq_windows.specs.Windows.{Activation, NodeFrame, NodeItems, NodeLet, NodeMoved, NodeRun, NodeThen, NodeValue, Store, begin_node, bind, binds_node, group_values, item_node, items_node, node_at, node_closed, node_moved, node_raises}
@@ -62,13 +62,13 @@ binds_alike T S g tag act b bound w ns fs fr child at (ABind x e place bs) is h 
 
 -- ---- a group
 
-group_are_bound : {R : Type 0} → (T : Table R) (u : Outside) (group numbers : List CodeNo) (i : ℕ) (bs : RecBindTrees) (thread count : ℕ) (cs : PlainValues R) → AreMembers T.procs u group numbers i bs → group_values thread count cs numbers ≡ bound_values (member_values thread count cs (member_names bs) numbers)
+group_are_bound : {R : Type 0} → (T : Table R) (u : Outside) (group numbers : List CodeNo) (i : ℕ) (bs : RecBindTrees) (thread count : ℕ) (cs : PlainValues R) → AreMembers T.procs u group numbers i bs → group_values thread count group i cs numbers ≡ bound_values (member_values thread count group i cs (member_names bs))
 group_are_bound T u group [] i NoRecBinds thread count cs h = refl
 group_are_bound T u group [] i (ARecBind x q place bs) thread count cs h = absurd h
 group_are_bound T u group (number ∷ numbers) i NoRecBinds thread count cs h = absurd h
-group_are_bound {R} T u group (number ∷ numbers) i (ARecBind x q place bs) thread count cs h = ap (λ l. ClosureValue thread count number cs ∷ l) (group_are_bound T u group numbers (suc i) bs thread count cs h.1)
+group_are_bound {R} T u group (number ∷ numbers) i (ARecBind x q place bs) thread count cs h = ap (λ l. ClosureValue thread count group i cs ∷ l) (group_are_bound T u group numbers (suc i) bs thread count cs h.1)
 
-group_length : {R : Type 0} → (T : Table R) (u : Outside) (group numbers : List CodeNo) (i : ℕ) (bs : RecBindTrees) (thread count : ℕ) (cs : PlainValues R) → AreMembers T.procs u group numbers i bs → length (member_values thread count cs (member_names bs) numbers) ≡ length numbers
+group_length : {R : Type 0} → (T : Table R) (u : Outside) (group numbers : List CodeNo) (i : ℕ) (bs : RecBindTrees) (thread count : ℕ) (cs : PlainValues R) → AreMembers T.procs u group numbers i bs → length (member_values thread count group i cs (member_names bs)) ≡ length numbers
 group_length T u group [] i NoRecBinds thread count cs h = refl
 group_length T u group [] i (ARecBind x q place bs) thread count cs h = absurd h
 group_length T u group (number ∷ numbers) i NoRecBinds thread count cs h = absurd h
@@ -79,24 +79,24 @@ made_alike : {R : Type 0} → (T : Table R) (S : Store R) (m : NodeMoved R) (t :
 made_alike T S m t (inl e) = inl e
 made_alike T S m t (inr k) = inr (record { tag = k.tag; makes = refl; height = k.height; frames = k.frames; focus = k.focus })
 
-letrec_alike : {R : Type 0} → (T : Table R) (S : Store R) → Agrees T S → (a thread count : ℕ) (act : Activation R) (b : ℕ) (bound : List (Bound R)) → DepthLaw T (place_at act bound) → IsBound act b bound → (ns : List (NodeFrame R)) (fs : List (TreeFrame R)) → FramesAre T S act b ns fs → (at : ℕ) (bs : RecBindTrees) (place : ℕ) (is : ItemTrees)
+letrec_alike : {R : Type 0} → (T : Table R) (S : Store R) → Agrees T S → (a thread count : ℕ) (act : Activation R) (b : ℕ) (bound : List (Bound R)) → PlaceLaw T (place_at act bound) → IsBound act b bound → (ns : List (NodeFrame R)) (fs : List (TreeFrame R)) → FramesAre T S act b ns fs → (at : ℕ) (bs : RecBindTrees) (place : ℕ) (is : ItemTrees)
     → (h : StandsAt T S act.code (draft_items (outside_at T (place_at act bound)) (bound_names bound) (AnItem (LetRecItem bs place) is)) at)
     → Same T S (item_node S a thread count act ns at (count_items is) b (node_at S act.code at)) (begin_letrec T thread count (first_of T S h).nodes.0 (place_at act bound) bs is fs)
 letrec_alike {R} T S g a thread count act b bound d w ns fs fr at bs place is h =
     at_node T S act.code at (n.LetRec (first_of T S h).nodes.0 (slots_of (outside_at T (place_at act bound)) (bound_names bound) (captured_by_group (outside_at T (place_at act bound)) (bound_names bound) bs))) (item_node S a thread count act ns at (count_items is) b) _
     (item_here (nodes_of (S.code act.code)) at _ (first_of T S h).nodes.1 (first_of T S h).nodes.2)
-    (subst (λ (vs : PlainValues R). Same T S (if nat_lt 1000 (depth_of_values vs) then node_moved Stepped act ns (node_raises (codes "closure_limit")) else node_closed (items_node Stepped (bind act b (group_values thread count vs (first_of T S h).nodes.0)) ns (S.end act.code at) (count_items is) (b + length (first_of T S h).nodes.0))) (begin_letrec T thread count (first_of T S h).nodes.0 (place_at act bound) bs is fs))
-    (sym (capture_is T S g act b bound w (captured_by_group (outside_at T (place_at act bound)) (bound_names bound) bs) (λ x e. captured_covered (outside_at T (place_at act bound)) (bound_names bound) (free_members (member_names bs) bs) x e)))
-    (subst (λ (c : Bool). Same T S (if c then node_moved Stepped act ns (node_raises (codes "closure_limit")) else node_closed (items_node Stepped (bind act b (group_values thread count (captured_values T (place_at act bound) (captured_by_group (outside_at T (place_at act bound)) (bound_names bound) bs)) (first_of T S h).nodes.0)) ns (S.end act.code at) (count_items is) (b + length (first_of T S h).nodes.0))) (begin_letrec T thread count (first_of T S h).nodes.0 (place_at act bound) bs is fs))
+    (subst (λ (vs : PlainValues R). Same T S (if nat_lt 1000 (depth_of_values vs) then node_moved Stepped act ns (node_raises (codes "closure_limit")) else node_closed (items_node Stepped (bind act b (group_values thread count (first_of T S h).nodes.0 0 vs (first_of T S h).nodes.0)) ns (S.end act.code at) (count_items is) (b + length (first_of T S h).nodes.0))) (begin_letrec T thread count (first_of T S h).nodes.0 (place_at act bound) bs is fs))
+    (sym (capture_is T S act b bound w d.members (captured_by_group (outside_at T (place_at act bound)) (bound_names bound) bs) (λ x e. captured_covered (outside_at T (place_at act bound)) (bound_names bound) (free_members (member_names bs) bs) x e)))
+    (subst (λ (c : Bool). Same T S (if c then node_moved Stepped act ns (node_raises (codes "closure_limit")) else node_closed (items_node Stepped (bind act b (group_values thread count (first_of T S h).nodes.0 0 (captured_values T (place_at act bound) (captured_by_group (outside_at T (place_at act bound)) (bound_names bound) bs)) (first_of T S h).nodes.0)) ns (S.end act.code at) (count_items is) (b + length (first_of T S h).nodes.0))) (begin_letrec T thread count (first_of T S h).nodes.0 (place_at act bound) bs is fs))
     (sym (d.group bs)) (by_depth (nat_lt 1000 (deepest_of (letrec_parts T (place_at act bound) bs)))))) where
-      by_depth : (c : Bool) → Same T S (if c then node_moved Stepped act ns (node_raises (codes "closure_limit")) else node_closed (items_node Stepped (bind act b (group_values thread count (captured_values T (place_at act bound) (captured_by_group (outside_at T (place_at act bound)) (bound_names bound) bs)) (first_of T S h).nodes.0)) ns (S.end act.code at) (count_items is) (b + length (first_of T S h).nodes.0)))
-          (if c then tree_moved Stepped fs (tree_raises (codes "closure_limit")) else tree_closed (begin_rest Stepped (with_bound (place_at act bound) (member_values thread count (captured_values T (place_at act bound) (captured_by_group (outside_at T (place_at act bound)) (bound_names bound) bs)) (member_names bs) (first_of T S h).nodes.0)) is fs))
+      by_depth : (c : Bool) → Same T S (if c then node_moved Stepped act ns (node_raises (codes "closure_limit")) else node_closed (items_node Stepped (bind act b (group_values thread count (first_of T S h).nodes.0 0 (captured_values T (place_at act bound) (captured_by_group (outside_at T (place_at act bound)) (bound_names bound) bs)) (first_of T S h).nodes.0)) ns (S.end act.code at) (count_items is) (b + length (first_of T S h).nodes.0)))
+          (if c then tree_moved Stepped fs (tree_raises (codes "closure_limit")) else tree_closed (begin_rest Stepped (with_bound (place_at act bound) (member_values thread count (first_of T S h).nodes.0 0 (captured_values T (place_at act bound) (captured_by_group (outside_at T (place_at act bound)) (bound_names bound) bs)) (member_names bs))) is fs))
       by_depth true = alike T S Stepped act b ns (node_raises (codes "closure_limit")) fs (tree_raises (codes "closure_limit")) fr refl
       by_depth false =
-          made_alike T S (items_node Stepped (bind act b (group_values thread count (captured_values T (place_at act bound) (captured_by_group (outside_at T (place_at act bound)) (bound_names bound) bs)) (first_of T S h).nodes.0)) ns (S.end act.code at) (count_items is) (b + length (first_of T S h).nodes.0)) (begin_rest Stepped (with_bound (place_at act bound) (member_values thread count (captured_values T (place_at act bound) (captured_by_group (outside_at T (place_at act bound)) (bound_names bound) bs)) (member_names bs) (first_of T S h).nodes.0)) is fs) (rest_alike T S Stepped (bind act b (group_values thread count (captured_values T (place_at act bound) (captured_by_group (outside_at T (place_at act bound)) (bound_names bound) bs)) (first_of T S h).nodes.0)) (b + length (first_of T S h).nodes.0) (bound ++ (member_values thread count (captured_values T (place_at act bound) (captured_by_group (outside_at T (place_at act bound)) (bound_names bound) bs)) (member_names bs) (first_of T S h).nodes.0))
-          (bound_all act b (length (first_of T S h).nodes.0) bound (member_values thread count (captured_values T (place_at act bound) (captured_by_group (outside_at T (place_at act bound)) (bound_names bound) bs)) (member_names bs) (first_of T S h).nodes.0) (group_values thread count (captured_values T (place_at act bound) (captured_by_group (outside_at T (place_at act bound)) (bound_names bound) bs)) (first_of T S h).nodes.0) w (group_are_bound T (inside (outside_at T (place_at act bound)) (member_names bs) (captured_by_group (outside_at T (place_at act bound)) (bound_names bound) bs)) (first_of T S h).nodes.0 (first_of T S h).nodes.0 0 bs thread count (captured_values T (place_at act bound) (captured_by_group (outside_at T (place_at act bound)) (bound_names bound) bs)) (first_of T S h).nodes.3) (group_length T (inside (outside_at T (place_at act bound)) (member_names bs) (captured_by_group (outside_at T (place_at act bound)) (bound_names bound) bs)) (first_of T S h).nodes.0 (first_of T S h).nodes.0 0 bs thread count (captured_values T (place_at act bound) (captured_by_group (outside_at T (place_at act bound)) (bound_names bound) bs)) (first_of T S h).nodes.3)) ns fs
-          (frames_up T S (bind act b (group_values thread count (captured_values T (place_at act bound) (captured_by_group (outside_at T (place_at act bound)) (bound_names bound) bs)) (first_of T S h).nodes.0)) b (b + length (first_of T S h).nodes.0) ns fs (more_than b (length (first_of T S h).nodes.0)) (frames_kept T S act b b (group_values thread count (captured_values T (place_at act bound) (captured_by_group (outside_at T (place_at act bound)) (bound_names bound) bs)) (first_of T S h).nodes.0) ns fs (not_above b) fr)) (S.end act.code at) is
-          (respelled (λ z. draft_items (outside_at T (place_at act bound)) z is) (bound_names bound ++ member_names bs) (bound_names (bound ++ (member_values thread count (captured_values T (place_at act bound) (captured_by_group (outside_at T (place_at act bound)) (bound_names bound) bs)) (member_names bs) (first_of T S h).nodes.0))) (ap (λ (l : List Bytes). bound_names bound ++ l) (sym (member_bound_names T (inside (outside_at T (place_at act bound)) (member_names bs) (captured_by_group (outside_at T (place_at act bound)) (bound_names bound) bs)) (first_of T S h).nodes.0 (first_of T S h).nodes.0 0 bs thread count (captured_values T (place_at act bound) (captured_by_group (outside_at T (place_at act bound)) (bound_names bound) bs)) (first_of T S h).nodes.3)) ∙ sym (names_append bound (member_values thread count (captured_values T (place_at act bound) (captured_by_group (outside_at T (place_at act bound)) (bound_names bound) bs)) (member_names bs) (first_of T S h).nodes.0))) (second_of T S g (drafted_item (outside_at T (place_at act bound)) (bound_names bound) (LetRecItem bs place)) h))) where
+          made_alike T S (items_node Stepped (bind act b (group_values thread count (first_of T S h).nodes.0 0 (captured_values T (place_at act bound) (captured_by_group (outside_at T (place_at act bound)) (bound_names bound) bs)) (first_of T S h).nodes.0)) ns (S.end act.code at) (count_items is) (b + length (first_of T S h).nodes.0)) (begin_rest Stepped (with_bound (place_at act bound) (member_values thread count (first_of T S h).nodes.0 0 (captured_values T (place_at act bound) (captured_by_group (outside_at T (place_at act bound)) (bound_names bound) bs)) (member_names bs))) is fs) (rest_alike T S Stepped (bind act b (group_values thread count (first_of T S h).nodes.0 0 (captured_values T (place_at act bound) (captured_by_group (outside_at T (place_at act bound)) (bound_names bound) bs)) (first_of T S h).nodes.0)) (b + length (first_of T S h).nodes.0) (bound ++ (member_values thread count (first_of T S h).nodes.0 0 (captured_values T (place_at act bound) (captured_by_group (outside_at T (place_at act bound)) (bound_names bound) bs)) (member_names bs)))
+          (bound_all act b (length (first_of T S h).nodes.0) bound (member_values thread count (first_of T S h).nodes.0 0 (captured_values T (place_at act bound) (captured_by_group (outside_at T (place_at act bound)) (bound_names bound) bs)) (member_names bs)) (group_values thread count (first_of T S h).nodes.0 0 (captured_values T (place_at act bound) (captured_by_group (outside_at T (place_at act bound)) (bound_names bound) bs)) (first_of T S h).nodes.0) w (group_are_bound T (inside (outside_at T (place_at act bound)) (member_names bs) (captured_by_group (outside_at T (place_at act bound)) (bound_names bound) bs)) (first_of T S h).nodes.0 (first_of T S h).nodes.0 0 bs thread count (captured_values T (place_at act bound) (captured_by_group (outside_at T (place_at act bound)) (bound_names bound) bs)) (first_of T S h).nodes.3) (group_length T (inside (outside_at T (place_at act bound)) (member_names bs) (captured_by_group (outside_at T (place_at act bound)) (bound_names bound) bs)) (first_of T S h).nodes.0 (first_of T S h).nodes.0 0 bs thread count (captured_values T (place_at act bound) (captured_by_group (outside_at T (place_at act bound)) (bound_names bound) bs)) (first_of T S h).nodes.3)) ns fs
+          (frames_up T S (bind act b (group_values thread count (first_of T S h).nodes.0 0 (captured_values T (place_at act bound) (captured_by_group (outside_at T (place_at act bound)) (bound_names bound) bs)) (first_of T S h).nodes.0)) b (b + length (first_of T S h).nodes.0) ns fs (more_than b (length (first_of T S h).nodes.0)) (frames_kept T S act b b (group_values thread count (first_of T S h).nodes.0 0 (captured_values T (place_at act bound) (captured_by_group (outside_at T (place_at act bound)) (bound_names bound) bs)) (first_of T S h).nodes.0) ns fs (not_above b) fr)) (S.end act.code at) is
+          (respelled (λ z. draft_items (outside_at T (place_at act bound)) z is) (bound_names bound ++ member_names bs) (bound_names (bound ++ (member_values thread count (first_of T S h).nodes.0 0 (captured_values T (place_at act bound) (captured_by_group (outside_at T (place_at act bound)) (bound_names bound) bs)) (member_names bs)))) (ap (λ (l : List Bytes). bound_names bound ++ l) (sym (member_bound_names thread count (first_of T S h).nodes.0 0 (captured_values T (place_at act bound) (captured_by_group (outside_at T (place_at act bound)) (bound_names bound) bs)) (member_names bs))) ∙ sym (names_append bound (member_values thread count (first_of T S h).nodes.0 0 (captured_values T (place_at act bound) (captured_by_group (outside_at T (place_at act bound)) (bound_names bound) bs)) (member_names bs)))) (second_of T S g (drafted_item (outside_at T (place_at act bound)) (bound_names bound) (LetRecItem bs place)) h))) where
             more_than : (x y : ℕ) → x ≤ x + y
             more_than x y = omega arith
 
@@ -105,7 +105,7 @@ pub record ItemsBegun {R : Type 0} (T : Table R) (S : Store R) (p : Place R) (is
   pub hint : HintItems T numbers p is
   pub same : Same T S m (t numbers)
 
-plain_alike : {R : Type 0} → (T : Table R) (S : Store R) → Agrees T S → (a thread count : ℕ) (act : Activation R) (b : ℕ) (bound : List (Bound R)) → DepthLaw T (place_at act bound) → IsBound act b bound → (ns : List (NodeFrame R)) (fs : List (TreeFrame R)) → FramesAre T S act b ns fs → (at : ℕ) (e : ExprTree) (is : ItemTrees)
+plain_alike : {R : Type 0} → (T : Table R) (S : Store R) → Agrees T S → (a thread count : ℕ) (act : Activation R) (b : ℕ) (bound : List (Bound R)) → PlaceLaw T (place_at act bound) → IsBound act b bound → (ns : List (NodeFrame R)) (fs : List (TreeFrame R)) → FramesAre T S act b ns fs → (at : ℕ) (e : ExprTree) (is : ItemTrees)
     → StandsAt T S act.code (draft_items (outside_at T (place_at act bound)) (bound_names bound) (AnItem (PlainItem e) is)) at
     → ItemsBegun T S (place_at act bound) (AnItem (PlainItem e) is) (item_node S a thread count act ns at (count_items is) b (node_at S act.code at)) (λ numbers. begin_items T a thread count numbers (place_at act bound) (AnItem (PlainItem e) is) fs)
 plain_alike {R} T S g a thread count act b bound d w ns fs fr at e NoItems h =
@@ -131,7 +131,7 @@ plain_alike {R} T S g a thread count act b bound d w ns fs fr at e (AnItem j is)
           (ap (begin_node S a thread count act (NodeThen (S.end act.code at) (count_items is) b ∷ ns) at b) hd.there ∙ sym (ap (item_node S a thread count act ns at (suc (count_items is)) b) hd.there ∙ item_plain S a thread count act ns at (suc (count_items is)) b hd.node hd.plain)) m.same;
     }
 
-pub items_alike : {R : Type 0} → (T : Table R) (S : Store R) → Agrees T S → (a thread count : ℕ) (act : Activation R) (b : ℕ) (bound : List (Bound R)) → DepthLaw T (place_at act bound) → IsBound act b bound → (ns : List (NodeFrame R)) (fs : List (TreeFrame R)) → FramesAre T S act b ns fs → (at : ℕ) (i : ItemTree) (is : ItemTrees)
+pub items_alike : {R : Type 0} → (T : Table R) (S : Store R) → Agrees T S → (a thread count : ℕ) (act : Activation R) (b : ℕ) (bound : List (Bound R)) → PlaceLaw T (place_at act bound) → IsBound act b bound → (ns : List (NodeFrame R)) (fs : List (TreeFrame R)) → FramesAre T S act b ns fs → (at : ℕ) (i : ItemTree) (is : ItemTrees)
     → StandsAt T S act.code (draft_items (outside_at T (place_at act bound)) (bound_names bound) (AnItem i is)) at
     → ItemsBegun T S (place_at act bound) (AnItem i is) (item_node S a thread count act ns at (count_items is) b (node_at S act.code at)) (λ numbers. begin_items T a thread count numbers (place_at act bound) (AnItem i is) fs)
 items_alike T S g a thread count act b bound d w ns fs fr at (LetItem bs place) is h = record {

@@ -1,5 +1,5 @@
 -- A part that begins to run, and calls whose arguments are there.
-use Rattle.std.specs.Prelude.{Bool, List, [], codes, false, if◌then◌else◌, length, refl, suc, true, ℕ, ◌==◌, ◌∷◌, ◌≡◌, ◌&&◌, nat_lt}
+use Rattle.std.specs.Prelude.{Bool, List, None, Option, Some, [], codes, false, if◌then◌else◌, length, nat_lt, refl, slice_get, suc, true, ℕ, ◌&&◌, ◌==◌, ◌∷◌, ◌≡◌}
 use Rattle.std.proofs.Common.{subst, ap, sym, ◌∙◌}
 use Rattle.obq_base.specs.Tree.{ALink, ASuffix, AnExpr, ApplySuffix, ExprTrees, IndexSuffix, InvokeSuffix, LinkTrees, NoExprs, NoLinks, NoSuffixes, SelectSuffix, SuffixTree, SuffixTrees}
 use Rattle.obq_base.specs.declared.trees.Operator.{Operator}
@@ -11,11 +11,12 @@ use Rattle.obq_model.specs.Store.{ArrayCell}
 use Rattle.obq_model.specs.Terms.{Apply, Array, Bytes, Call, Condition, End, Engine, Form, Index, Invoke, MakeArray, Object, Part, Parts, Term, Variable, Writer}
 use Rattle.obq_model.proofs.Plug.{activations_append, operands}
 use Rattle.obq_windows.specs.Meanings.{Moves}
-use Rattle.obq_windows.specs.Trees.{Beyond, Callee, Does, ExprTask, Gives, PendingArguments, PendingCalled, PendingChain, PendingCount, PendingFirst, PendingForm, PendingGuard, PendingHead, PendingIf, PendingKept, PendingLast, PendingLet, PendingLoop, PendingRaise, PendingRight, PendingThen, PendingTo, PendingTry, Place, PlainInvoke, PlainNewArray, PlainResult, Raises, Silent, Stepped, ToArray, ToBuiltin, ToCall, ToIndex, ToInvoke, TreeFrame, TreeMoved, TreeRun, TreeValue, applied, array_made, begin_args, call_plain, callee_frame, count_activations, entered, expr_at, exprs_at, finish_args, frames_of, indexed, invoked, is_activation, link_frame, links_around, pending_frames, push, suffix_frame, suffixes_around, tree_moved, tree_raises, tree_result, with_suffixes}
-use Rattle.obq_windows.specs.Values.{ClosureValue, ExceptionValue, IntValue, IsMadeTable, LocationValue, OkayValue, PlainValue, Table, TextValue, ThreadValue, TruthValue, closure_of, read_all, read_value, read_values}
+use Rattle.obq_windows.specs.Trees.{Beyond, Callee, Does, ExprTask, Gives, PendingArguments, PendingCalled, PendingChain, PendingCount, PendingFirst, PendingForm, PendingGuard, PendingHead, PendingIf, PendingKept, PendingLast, PendingLet, PendingLoop, PendingRaise, PendingRight, PendingThen, PendingTo, PendingTry, Place, PlainInvoke, PlainNewArray, PlainResult, Raises, Silent, Stepped, ToArray, ToBuiltin, ToCall, ToIndex, ToInvoke, TreeFrame, TreeMoved, TreeRun, TreeValue, applied, array_made, begin_args, call_code, call_plain, callee_frame, count_activations, expr_at, exprs_at, finish_args, frames_of, indexed, invoked, is_activation, link_frame, links_around, pending_frames, push, suffix_frame, suffixes_around, tree_moved, tree_raises, tree_result, with_suffixes}
+use Rattle.obq_windows.specs.Values.{ClosureValue, ExceptionValue, IntValue, IsMadeTable, LocationValue, OkayValue, PlainValue, Table, TextValue, ThreadValue, TruthValue, closure_of, proc_named, proc_of, read_all, read_value, read_values}
 use Rattle.obq_windows.proofs.Around.{asks, found_in, pushed, silent, to_here}
 use Rattle.obq_windows.proofs.Calls.{callable, entered_right}
 use Rattle.obq_windows.proofs.Results.{ResultIs, built_is, closure_cases}
+use Rattle.obq_base.specs.declared.code.CodeNo.{CodeNo}
 
 -- the same of a term that is spelled in another way
 pub of_term : {R : Type 0} → (eq : R → R → Bool) (T : Table R) (a : ℕ) (s : Self R) (t u : Term R) (m : TreeMoved R) → t ≡ u → Moves eq T a s u m → Moves eq T a s t m
@@ -74,16 +75,20 @@ counted T a (f ∷ fs) =
 
 pub call_right : {R : Type 0} → (eq : R → R → Bool) (T : Table R) (a : ℕ) (s : Self R) → IsMadeTable T → (fs : List (TreeFrame R)) (t : Term R) (f : PlainValue R) (p : Place R) (vs : List (PlainValue R))
     → found_in eq T a s fs t ≡ call (activations_at a (frames_of T fs)) (read_value T f) (read_all T vs) → Moves eq T a s (plug (frames_of T fs) t) (call_plain T (count_activations a fs) f p vs fs)
-call_right {R} eq T a s w fs t (ClosureValue thread count number cs) p vs h = at (is_call_limit (count_activations a fs)) refl where
-  found : (b : Bool) → is_call_limit (count_activations a fs) ≡ b → found_in eq T a s fs t ≡ (if b then Next call_limit else call_value (closure_of T (read_values T cs) (T.procs number)) (read_all T vs))
+call_right {R} eq T a s w fs t (ClosureValue thread count group index cs) p vs h = at (is_call_limit (count_activations a fs)) refl where
+  found : (b : Bool) → is_call_limit (count_activations a fs) ≡ b → found_in eq T a s fs t ≡ (if b then Next call_limit else call_value (closure_of T (read_values T cs) (proc_of T group index)) (read_all T vs))
   found b e =
-      h ∙ ap (λ (c : Bool). if c && is_call_limit (activations_at a (frames_of T fs)) then Next call_limit else call_value (closure_of T (read_values T cs) (T.procs number)) (read_all T vs)) (callable T (read_values T cs) (T.procs number))
-      ∙ ap (λ (n : ℕ). if is_call_limit n then Next call_limit else call_value (closure_of T (read_values T cs) (T.procs number)) (read_all T vs)) (counted T a fs)
-      ∙ ap (λ (c : Bool). if c then Next call_limit else call_value (closure_of T (read_values T cs) (T.procs number)) (read_all T vs)) e
+      h ∙ ap (λ (c : Bool). if c && is_call_limit (activations_at a (frames_of T fs)) then Next call_limit else call_value (closure_of T (read_values T cs) (proc_of T group index)) (read_all T vs)) (callable T (read_values T cs) (proc_of T group index))
+      ∙ ap (λ (n : ℕ). if is_call_limit n then Next call_limit else call_value (closure_of T (read_values T cs) (proc_of T group index)) (read_all T vs)) (counted T a fs)
+      ∙ ap (λ (c : Bool). if c then Next call_limit else call_value (closure_of T (read_values T cs) (proc_of T group index)) (read_all T vs)) e
 
-  at : (b : Bool) → is_call_limit (count_activations a fs) ≡ b → Moves eq T a s (plug (frames_of T fs) t) (if b then tree_moved Stepped fs (tree_raises (codes "call_limit")) else entered thread count number cs (T.procs number) p vs fs)
+  by_code : (o : Option CodeNo) → found_in eq T a s fs t ≡ call_value (closure_of T (read_values T cs) (proc_named T o)) (read_all T vs) → Moves eq T a s (plug (frames_of T fs) t) (call_code T thread count group cs o p vs fs)
+  by_code None e = to_here eq T a s fs t (tree_raises (codes "type")) e
+  by_code (Some number) e = entered_right eq T a s fs t thread count group number cs p vs w (T.procs number) refl e
+
+  at : (b : Bool) → is_call_limit (count_activations a fs) ≡ b → Moves eq T a s (plug (frames_of T fs) t) (if b then tree_moved Stepped fs (tree_raises (codes "call_limit")) else call_code T thread count group cs (slice_get group index) p vs fs)
   at true e = to_here eq T a s fs t (tree_raises (codes "call_limit")) (found true e)
-  at false e = entered_right eq T a s fs t thread count number cs p vs w (T.procs number) refl (found false e)
+  at false e = by_code (slice_get group index) (found false e)
 call_right eq T a s w fs t (LocationValue Engine e) p vs h = tt
 call_right eq T a s w fs t (LocationValue Object e) p vs h = to_here eq T a s fs t (tree_raises (codes "type")) h
 call_right eq T a s w fs t (LocationValue Array e) p vs h = to_here eq T a s fs t (tree_raises (codes "type")) h
@@ -129,7 +134,7 @@ indexed_is eq T a s (OkayValue ∷ vs) = refl
 indexed_is eq T a s ((TextValue y) ∷ vs) = refl
 indexed_is eq T a s ((ExceptionValue y) ∷ vs) = refl
 indexed_is eq T a s ((ThreadValue y) ∷ vs) = refl
-indexed_is eq T a s ((ClosureValue ty cy cny csy) ∷ vs) = closure_cases T (read_values T csy) (T.procs cny) (λ f. row eq a s Index (f ∷ read_all T vs) End ≡ Next (raise (codes "type"))) (λ params body. refl) (λ names G i. refl)
+indexed_is eq T a s ((ClosureValue ty cy gy iy csy) ∷ vs) = closure_cases T (read_values T csy) (proc_of T gy iy) (λ f. row eq a s Index (f ∷ read_all T vs) End ≡ Next (raise (codes "type"))) (λ params body. refl) (λ names G i. refl)
 indexed_is eq T a s ((LocationValue Object y) ∷ vs) = refl
 indexed_is eq T a s ((LocationValue Variable y) ∷ vs) = refl
 indexed_is eq T a s ((LocationValue Writer y) ∷ vs) = refl
@@ -143,7 +148,7 @@ indexed_is eq T a s (LocationValue Array r ∷ OkayValue ∷ vs) = refl
 indexed_is eq T a s (LocationValue Array r ∷ (TextValue y) ∷ vs) = refl
 indexed_is eq T a s (LocationValue Array r ∷ (ExceptionValue y) ∷ vs) = refl
 indexed_is eq T a s (LocationValue Array r ∷ (ThreadValue y) ∷ vs) = refl
-indexed_is eq T a s (LocationValue Array r ∷ (ClosureValue ty cy cny csy) ∷ vs) = closure_cases T (read_values T csy) (T.procs cny) (λ f. row eq a s Index (read_value T (LocationValue Array r) ∷ f ∷ read_all T vs) End ≡ Next (raise (codes "type"))) (λ params body. refl) (λ names G i. refl)
+indexed_is eq T a s (LocationValue Array r ∷ (ClosureValue ty cy gy iy csy) ∷ vs) = closure_cases T (read_values T csy) (proc_of T gy iy) (λ f. row eq a s Index (read_value T (LocationValue Array r) ∷ f ∷ read_all T vs) End ≡ Next (raise (codes "type"))) (λ params body. refl) (λ names G i. refl)
 indexed_is eq T a s (LocationValue Array r ∷ (LocationValue Object y) ∷ vs) = refl
 indexed_is eq T a s (LocationValue Array r ∷ (LocationValue Array y) ∷ vs) = refl
 indexed_is eq T a s (LocationValue Array r ∷ (LocationValue Variable y) ∷ vs) = refl
@@ -159,7 +164,7 @@ invoked_is eq T a s x (OkayValue ∷ vs) = refl
 invoked_is eq T a s x ((TextValue y) ∷ vs) = refl
 invoked_is eq T a s x ((ExceptionValue y) ∷ vs) = refl
 invoked_is eq T a s x ((ThreadValue y) ∷ vs) = refl
-invoked_is eq T a s x ((ClosureValue ty cy cny csy) ∷ vs) = closure_cases T (read_values T csy) (T.procs cny) (λ f. row eq a s (Invoke x) (f ∷ read_all T vs) End ≡ Next (raise (codes "type"))) (λ params body. refl) (λ names G i. refl)
+invoked_is eq T a s x ((ClosureValue ty cy gy iy csy) ∷ vs) = closure_cases T (read_values T csy) (proc_of T gy iy) (λ f. row eq a s (Invoke x) (f ∷ read_all T vs) End ≡ Next (raise (codes "type"))) (λ params body. refl) (λ names G i. refl)
 invoked_is eq T a s x ((LocationValue Array y) ∷ vs) = refl
 invoked_is eq T a s x ((LocationValue Variable y) ∷ vs) = refl
 invoked_is eq T a s x ((LocationValue Writer y) ∷ vs) = refl

@@ -1,5 +1,5 @@
 -- A closure that is made: what it captures is what its body reads.
-use Rattle.std.specs.Prelude.{Bool, List, None, Option, Some, [], bytes_eq, codes, false, if◌then◌else◌, is_some, option_map, nat_lt, refl, suc, true, ℕ, ◌++◌, ◌∷◌, ◌≡◌, ◌||◌}
+use Rattle.std.specs.Prelude.{Bool, List, None, Option, Some, [], bytes_eq, codes, drop, false, if◌then◌else◌, is_some, nat_lt, option_map, refl, suc, true, ℕ, ◌++◌, ◌||◌, ◌∷◌, ◌≡◌}
 use Rattle.std.proofs.lemmas.Slice.Eq.{bytes_eq-Decides}
 use Rattle.std.proofs.Common.{ap, sym, ◌∙◌}
 use Rattle.obq_base.specs.Tree.{AProc, ARecBind, AnItem, ItemTrees, LetRecItem, NoItems, NoRecBinds, ProcTree, ProcedureTree, RecBindTrees}
@@ -10,7 +10,7 @@ use Rattle.obq_model.specs.Draft.{captured_by, captured_by_group}
 use Rattle.obq_model.specs.Exceptions.{closure_limit}
 use Rattle.obq_model.specs.Occurrences.{free_members, free_procedure, member_names}
 use Rattle.obq_model.specs.Opened.{open_block, open_items, open_members}
-use Rattle.obq_model.specs.Procedures.{AreMembers, Proc, proc_in}
+use Rattle.obq_model.specs.Procedures.{AreMembers, Proc}
 use Rattle.obq_model.specs.Put.{among, put_members}
 use Rattle.obq_model.specs.Reading.{Env, hide, or_some, read, read_parts, with_all, with_members}
 use Rattle.obq_model.specs.Scopes.{Outside, captured_of, inside, is_covered, last_place, last_place_from}
@@ -22,10 +22,11 @@ use Rattle.obq_model.proofs.Places.{among_place, or_else, place_found}
 use Rattle.obq_model.proofs.Substitution.{agree_read, members_read}
 use Rattle.obq_windows.specs.Meanings.{Moves}
 use Rattle.obq_windows.specs.Trees.{Bound, IsGroupHint, IsProcHint, ItemsTask, Place, Stepped, Tag, TreeFrame, TreeRun, TreeValue, begin_letrec, begin_proc, begin_rest, bound_names, captured_values, env_at, expr_at, frames_of, items_at, last_bound, letrec_parts, member_at, member_values, names_at, or_this, outside_at, proc_group, proc_outside, tree_closed, tree_made, tree_moved, tree_raises, value_in, value_of, value_or_okay, with_bound, writer_at}
-use Rattle.obq_windows.specs.Values.{ClosureValue, IsMadeTable, OkayValue, PlainValue, PlainValues, Table, captured_at, captured_env, closure_of, group_of, member_part, no_env, padded, read_value, read_values}
+use Rattle.obq_windows.specs.Values.{ClosureValue, IsMadeTable, OkayValue, PlainValue, PlainValues, Table, captured_at, captured_env, closure_of, group_of, member_part, no_env, padded, proc_named, proc_of, read_value, read_values}
 use Rattle.obq_windows.proofs.Around.{Starts, here, stepped, to_here}
 use Rattle.obq_windows.proofs.Calls.{members_none, members_some}
 use Rattle.obq_windows.proofs.Envs.{fun_eq, others}
+use Rattle.obq_windows.proofs.Lists.{behind_here, item_here}
 
 -- ---- what is covered has a value
 
@@ -96,10 +97,10 @@ proc_begins eq T a s thread count [] p q fs h = absurd h
 proc_begins {R} eq T a s thread count (number ∷ numbers) p (AProc params b place) fs h = at (is_too_deep (read (hide params (env_at T p)) (open_block (writer_at T p) (inside (outside_at T p) [] (captured_by (outside_at T p) (names_at p) (AProc params b place))) params b))) refl where
   at : (d : Bool) → is_too_deep (read (hide params (env_at T p)) (open_block (writer_at T p) (inside (outside_at T p) [] (captured_by (outside_at T p) (names_at p) (AProc params b place))) params b)) ≡ d
       → Moves eq T a s (plug (frames_of T fs) (expr_at T p (ProcTree (AProc params b place))))
-      (if d then tree_moved Stepped fs (tree_raises (codes "closure_limit")) else tree_made fs (TreeValue (ClosureValue thread count number (captured_values T p (captured_by (outside_at T p) (names_at p) (AProc params b place))))))
+      (if d then tree_moved Stepped fs (tree_raises (codes "closure_limit")) else tree_made fs (TreeValue (ClosureValue thread count (number ∷ []) 0 (captured_values T p (captured_by (outside_at T p) (names_at p) (AProc params b place))))))
   at true e = to_here eq T a s fs _ (tree_raises (codes "closure_limit")) (ap (λ (d : Bool). Next (if d then closure_limit else Const (Closure params (read (hide params (env_at T p)) (open_block (writer_at T p) (inside (outside_at T p) [] (captured_by (outside_at T p) (names_at p) (AProc params b place))) params b))))) e)
   at false e =
-      to_here eq T a s fs _ (TreeValue (ClosureValue thread count number (captured_values T p (captured_by (outside_at T p) (names_at p) (AProc params b place)))))
+      to_here eq T a s fs _ (TreeValue (ClosureValue thread count (number ∷ []) 0 (captured_values T p (captured_by (outside_at T p) (names_at p) (AProc params b place)))))
       (ap (λ (d : Bool). Next (if d then closure_limit else Const (Closure params (read (hide params (env_at T p)) (open_block (writer_at T p) (inside (outside_at T p) [] (captured_by (outside_at T p) (names_at p) (AProc params b place))) params b))))) e
       ∙ ap (λ (u : Term R). Next (Const (Closure params u))) (closing_agrees T p [] (free_procedure [] (AProc params b place)) params (open_block (writer_at T p) (inside (outside_at T p) [] (captured_by (outside_at T p) (names_at p) (AProc params b place))) params b) (only_block (writer_at T p) (inside (outside_at T p) [] (captured_by (outside_at T p) (names_at p) (AProc params b place))) params b))
       ∙ sym (ap (λ (o : Option Proc). Next (Const (closure_of T (read_values T (captured_values T p (captured_by (outside_at T p) (names_at p) (AProc params b place)))) o))) h))
@@ -120,32 +121,29 @@ pub names_append : {R : Type 0} → (xs ys : List (Bound R)) → bound_names (xs
 names_append [] ys = refl
 names_append (b ∷ xs) ys = ap (λ l. b.name ∷ l) (names_append xs ys)
 
-pub member_bound_names : {R : Type 0} → (T : Table R) (u : Outside) (group numbers : List CodeNo) (i : ℕ) (bs : RecBindTrees) (thread count : ℕ) (cs : PlainValues R) → AreMembers T.procs u group numbers i bs → bound_names (member_values thread count cs (member_names bs) numbers) ≡ member_names bs
-member_bound_names T u group [] i NoRecBinds thread count cs h = refl
-member_bound_names T u group [] i (ARecBind x q place bs) thread count cs h = absurd h
-member_bound_names T u group (number ∷ numbers) i NoRecBinds thread count cs h = absurd h
-member_bound_names T u group (number ∷ numbers) i (ARecBind x q place bs) thread count cs h = ap (λ l. x ∷ l) (member_bound_names T u group numbers (suc i) bs thread count cs h.1)
+pub member_bound_names : {R : Type 0} → (thread count : ℕ) (group : List CodeNo) (i : ℕ) (cs : PlainValues R) (xs : List Bytes) → bound_names (member_values thread count group i cs xs) ≡ xs
+member_bound_names thread count group i cs [] = refl
+member_bound_names thread count group i cs (x ∷ xs) = ap (λ l. x ∷ l) (member_bound_names thread count group (suc i) cs xs)
 
--- a member's value, and the values of all members by name
-one_member : {R : Type 0} → (T : Table R) (u : Outside) (c2 : CodeNo) (g : List CodeNo) (i : ℕ) (q : ProcedureTree) (number : CodeNo) (rv : List (Value R)) → T.procs number ≡ Some (proc_in u q (c2 ∷ g) i)
-    → closure_of T rv (T.procs number) ≡ Member u.members (group_of T u rv (c2 ∷ g)) i
-one_member T u c2 g i (AProc params b place) number rv h = ap (closure_of T rv) h
-
-members_bound : {R : Type 0} → (T : Table R) (u : Outside) (c2 : CodeNo) (g numbers : List CodeNo) (i : ℕ) (bs : RecBindTrees) (thread count : ℕ) (cs : PlainValues R) (y : Bytes) → AreMembers T.procs u (c2 ∷ g) numbers i bs
-    → option_map (read_value T) (last_bound y (member_values thread count cs (member_names bs) numbers)) ≡ option_map (λ k. Member u.members (group_of T u (read_values T cs) (c2 ∷ g)) k) (last_place_from i None y (member_names bs))
-members_bound T u c2 g [] i NoRecBinds thread count cs y h = refl
-members_bound T u c2 g [] i (ARecBind x q place bs) thread count cs y h = absurd h
-members_bound T u c2 g (number ∷ numbers) i NoRecBinds thread count cs y h = absurd h
-members_bound {R} T u c2 g (number ∷ numbers) i (ARecBind x q place bs) thread count cs y h =
-    first (bytes_eq x y) (last_bound y (member_values thread count cs (member_names bs) numbers)) (last_place_from (suc i) None y (member_names bs)) (members_bound T u c2 g numbers (suc i) bs thread count cs y h.1)
+-- the values of all members by name, from the place i of the group on
+members_bound : {R : Type 0} → (T : Table R) (u : Outside) (c2 : CodeNo) (g numbers : List CodeNo) (i : ℕ) (bs : RecBindTrees) (thread count : ℕ) (cs : PlainValues R) (y : Bytes) → AreMembers T.procs u (c2 ∷ g) numbers i bs → drop i (c2 ∷ g) ≡ numbers
+    → option_map (read_value T) (last_bound y (member_values thread count (c2 ∷ g) i cs (member_names bs))) ≡ option_map (λ k. Member u.members (group_of T u (read_values T cs) (c2 ∷ g)) k) (last_place_from i None y (member_names bs))
+members_bound T u c2 g [] i NoRecBinds thread count cs y h d = refl
+members_bound T u c2 g [] i (ARecBind x q place bs) thread count cs y h d = absurd h
+members_bound T u c2 g (number ∷ numbers) i NoRecBinds thread count cs y h d = absurd h
+members_bound {R} T u c2 g (number ∷ numbers) i (ARecBind x q place bs) thread count cs y h d =
+    first (bytes_eq x y) (last_bound y (member_values thread count (c2 ∷ g) (suc i) cs (member_names bs))) (last_place_from (suc i) None y (member_names bs)) (members_bound T u c2 g numbers (suc i) bs thread count cs y h.1 (behind_here (c2 ∷ g) i number numbers d))
     ∙ ap (λ (c : Bool). option_map (λ k. Member u.members (group_of T u (read_values T cs) (c2 ∷ g)) k) (or_else (last_place_from (suc i) None y (member_names bs)) (if c then Some i else None))) (bytes_sym x y)
     ∙ ap (option_map (λ k. Member u.members (group_of T u (read_values T cs) (c2 ∷ g)) k)) (sym (place_found (suc i) (if bytes_eq y x then Some i else None) y (member_names bs))) where
+      one : closure_of T (read_values T cs) (proc_of T (c2 ∷ g) i) ≡ Member u.members (group_of T u (read_values T cs) (c2 ∷ g)) i
+      one = ap (λ (o : Option CodeNo). closure_of T (read_values T cs) (proc_named T o)) (item_here (c2 ∷ g) i number numbers d) ∙ ap (closure_of T (read_values T cs)) h.0
+
       first : (c : Bool) (o : Option (PlainValue R)) (m : Option ℕ) → option_map (read_value T) o ≡ option_map (λ k. Member u.members (group_of T u (read_values T cs) (c2 ∷ g)) k) m
-          → option_map (read_value T) (or_this o c (ClosureValue thread count number cs)) ≡ option_map (λ k. Member u.members (group_of T u (read_values T cs) (c2 ∷ g)) k) (or_else m (if c then Some i else None))
+          → option_map (read_value T) (or_this o c (ClosureValue thread count (c2 ∷ g) i cs)) ≡ option_map (λ k. Member u.members (group_of T u (read_values T cs) (c2 ∷ g)) k) (or_else m (if c then Some i else None))
       first c (Some v) (Some k) e = e
       first c (Some v) None e = absurd (true_false (ap is_some e))
       first c None (Some k) e = absurd (true_false (sym (ap is_some e)))
-      first true None None e = ap Some (one_member T u c2 g i q number (read_values T cs) h.0)
+      first true None None e = ap Some one
       first false None None e = refl
 
 -- the group as its codes see it is the group here
@@ -184,19 +182,19 @@ group_at {R} T p names G mv h = fun_eq _ _ (λ y. at y (last_place y names) refl
 
 letrec_rest : {R : Type 0} → (T : Table R) (thread count : ℕ) (numbers : List CodeNo) (p : Place R) (bs : RecBindTrees) (is : ItemTrees) → IsGroupHint T numbers p bs
     → put_members (member_names bs) (letrec_parts T p bs) 0 (member_names bs) (read (hide (member_names bs) (env_at T p)) (open_items (writer_at T p) (outside_at T p) (names_at p ++ member_names bs) is))
-    ≡ items_at T (with_bound p (member_values thread count (captured_values T p (captured_by_group (outside_at T p) (names_at p) bs)) (member_names bs) numbers)) is
+    ≡ items_at T (with_bound p (member_values thread count numbers 0 (captured_values T p (captured_by_group (outside_at T p) (names_at p) bs)) (member_names bs))) is
 letrec_rest {R} T thread count numbers p bs is h =
     members_read (member_names bs) (letrec_parts T p bs) 0 (member_names bs) (hide (member_names bs) (env_at T p)) (open_items (writer_at T p) (outside_at T p) (names_at p ++ member_names bs) is)
     ∙ ap (λ (env : Env R). read env (open_items (writer_at T p) (outside_at T p) (names_at p ++ member_names bs) is)) (group_at T p (member_names bs) (letrec_parts T p bs) _ (values numbers bs h))
-    ∙ ap (λ (names : List Bytes). read (env_at T (with_bound p (member_values thread count (captured_values T p (captured_by_group (outside_at T p) (names_at p) bs)) (member_names bs) numbers))) (open_items (writer_at T p) (outside_at T p) names is))
-    (ap (λ (l : List Bytes). names_at p ++ l) (sym (member_bound_names T _ numbers numbers 0 bs thread count _ h)) ∙ sym (names_append p.bound _)) where
+    ∙ ap (λ (names : List Bytes). read (env_at T (with_bound p (member_values thread count numbers 0 (captured_values T p (captured_by_group (outside_at T p) (names_at p) bs)) (member_names bs)))) (open_items (writer_at T p) (outside_at T p) names is))
+    (ap (λ (l : List Bytes). names_at p ++ l) (sym (member_bound_names thread count numbers 0 _ (member_names bs))) ∙ sym (names_append p.bound _)) where
       values : (numbers : List CodeNo) (bs : RecBindTrees) → IsGroupHint T numbers p bs → (y : Bytes)
-          → option_map (read_value T) (last_bound y (member_values thread count (captured_values T p (captured_by_group (outside_at T p) (names_at p) bs)) (member_names bs) numbers)) ≡ option_map (λ k. Member (member_names bs) (letrec_parts T p bs) k) (last_place y (member_names bs))
+          → option_map (read_value T) (last_bound y (member_values thread count numbers 0 (captured_values T p (captured_by_group (outside_at T p) (names_at p) bs)) (member_names bs))) ≡ option_map (λ k. Member (member_names bs) (letrec_parts T p bs) k) (last_place y (member_names bs))
       values [] NoRecBinds h y = refl
       values [] (ARecBind x q place bs) h y = absurd h
       values (number ∷ numbers) NoRecBinds h y = absurd h
       values (number ∷ numbers) (ARecBind x q place bs) h y =
-          members_bound T (inside (outside_at T p) (x ∷ member_names bs) (captured_by_group (outside_at T p) (names_at p) (ARecBind x q place bs))) number numbers (number ∷ numbers) 0 (ARecBind x q place bs) thread count (captured_values T p (captured_by_group (outside_at T p) (names_at p) (ARecBind x q place bs))) y h
+          members_bound T (inside (outside_at T p) (x ∷ member_names bs) (captured_by_group (outside_at T p) (names_at p) (ARecBind x q place bs))) number numbers (number ∷ numbers) 0 (ARecBind x q place bs) thread count (captured_values T p (captured_by_group (outside_at T p) (names_at p) (ARecBind x q place bs))) y h refl
           ∙ ap (λ (G : Parts R). option_map (λ k. Member (x ∷ member_names bs) G k) (last_place y (x ∷ member_names bs)))
           (group_read T p (x ∷ member_names bs) (free_members (x ∷ member_names bs) (ARecBind x q place bs)) (number ∷ numbers) (number ∷ numbers) 0 (ARecBind x q place bs) h)
 
@@ -209,12 +207,12 @@ pub letrec_begins : {R : Type 0} → (eq : R → R → Bool) (T : Table R) (a : 
 letrec_begins {R} eq T a s w thread count numbers p bs place is fs h = at (nat_lt 1000 (deepest_of (letrec_parts T p bs))) refl where
   at : (d : Bool) → nat_lt 1000 (deepest_of (letrec_parts T p bs)) ≡ d
       → Moves eq T a s (plug (frames_of T fs) (items_at T p (AnItem (LetRecItem bs place) is)))
-      (if d then tree_moved Stepped fs (tree_raises (codes "closure_limit")) else tree_closed (begin_rest Stepped (with_bound p (member_values thread count (captured_values T p (captured_by_group (outside_at T p) (names_at p) bs)) (member_names bs) numbers)) is fs))
+      (if d then tree_moved Stepped fs (tree_raises (codes "closure_limit")) else tree_closed (begin_rest Stepped (with_bound p (member_values thread count numbers 0 (captured_values T p (captured_by_group (outside_at T p) (names_at p) bs)) (member_names bs))) is fs))
   at true e =
       to_here eq T a s fs _ (tree_raises (codes "closure_limit"))
       (ap (λ (d : Bool). Next (if d then closure_limit else put_members (member_names bs) (letrec_parts T p bs) 0 (member_names bs) (read (hide (member_names bs) (env_at T p)) (open_items (writer_at T p) (outside_at T p) (names_at p ++ member_names bs) is)))) e)
   at false e =
-      stepped eq T a s fs _ _ (begin_rest Stepped (with_bound p (member_values thread count (captured_values T p (captured_by_group (outside_at T p) (names_at p) bs)) (member_names bs) numbers)) is fs)
+      stepped eq T a s fs _ _ (begin_rest Stepped (with_bound p (member_values thread count numbers 0 (captured_values T p (captured_by_group (outside_at T p) (names_at p) bs)) (member_names bs))) is fs)
       (ap (λ (d : Bool). Next (if d then closure_limit else put_members (member_names bs) (letrec_parts T p bs) 0 (member_names bs) (read (hide (member_names bs) (env_at T p)) (open_items (writer_at T p) (outside_at T p) (names_at p ++ member_names bs) is)))) e
       ∙ ap Next (letrec_rest T thread count numbers p bs is h))
-      (rest_starts T fs Stepped (with_bound p (member_values thread count (captured_values T p (captured_by_group (outside_at T p) (names_at p) bs)) (member_names bs) numbers)) is)
+      (rest_starts T fs Stepped (with_bound p (member_values thread count numbers 0 (captured_values T p (captured_by_group (outside_at T p) (names_at p) bs)) (member_names bs))) is)

@@ -38,7 +38,7 @@ table = record { procs = λ number. Some (main_proc 0 tree); writer = λ source.
 
 store : Store ℕ
 unfolding nodes end_of
-store = record { code = λ number. Some (record { params = 0; captures = 0; nodes = nodes }); end = λ number at. end_of at; group = λ number. []; writer = λ source. source }
+store = record { code = λ number. Some (record { params = 0; captures = 0; nodes = nodes }); end = λ number at. end_of at; writer = λ source. source }
 
 some_is : (p : Proc) → Some (main_proc 0 tree) ≡ Some p → main_proc 0 tree ≡ p
 some_is p e = ap (λ (o : Option Proc). unwrap_or o (main_proc 0 tree)) e
@@ -80,7 +80,6 @@ agree = record {
     },
   );
   end = λ number at. ends at;
-  group = λ number. refl;
   writer = λ source. refl;
 } where
   ends : (at : ℕ) → drop (end_of at) nodes ≡ skipped 1 (drop at nodes)
@@ -94,7 +93,7 @@ agree = record {
 -- five pure steps, and the window is at its bottom
 ran : Ran ℕ
 unfolding store nodes end_of
-ran = run_nodes same_loc store 0 0 40 0 (activation_of (record { source = 0; n = 0 }) 0 0 NoValues []) [] (NodeRun 0 0)
+ran = run_nodes same_loc store 0 0 40 0 (activation_of (record { source = 0; n = 0 }) 0 0 [] NoValues []) [] (NodeRun 0 0)
 
 five : ran.steps ≡ 5
 unfolding ran store nodes end_of

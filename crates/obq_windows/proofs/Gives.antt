@@ -14,7 +14,7 @@ use Rattle.obq_model.proofs.Plug.{plug_append}
 use Rattle.obq_model.proofs.PutRead.{put_read}
 use Rattle.obq_windows.specs.Meanings.{Moves}
 use Rattle.obq_windows.specs.Trees.{BlockTask, Callee, ExprTask, KeptRaising, KeptValue, PendingArguments, PendingCalled, PendingChain, PendingCount, PendingFirst, PendingForm, PendingGuard, PendingHead, PendingIf, PendingKept, PendingLast, PendingLet, PendingLoop, PendingRaise, PendingRight, PendingThen, PendingTo, PendingTry, Place, PlainGet, Silent, Stepped, ToArray, ToBuiltin, ToCall, ToIndex, ToInvoke, TreeFrame, TreeRaising, TreeRun, TreeUnmet, TreeValue, arms_at, begin_args, begin_arms, begin_binds, begin_count, begin_if, begin_rest, bind_of, block_at, callee_frame, count_activations, env_at, expr_at, exprs_at, frames_of, give_and, give_guard, give_if, give_left, give_or, give_pending, give_raise, give_suffix, give_to, going_on, if_at, let_at, link_frame, linked_kind, links_around, names_at, operated, outside_at, pending_frames, push, scope_at, suffix_frame, suffixes_around, tree_moved, tree_raises, tree_result, with_bound, with_links, with_suffixes, writer_at}
-use Rattle.obq_windows.specs.Values.{ClosureValue, ExceptionValue, IntValue, IsMadeTable, LocationValue, OkayValue, PlainValue, Table, TextValue, ThreadValue, TruthValue, read_all, read_value, read_values}
+use Rattle.obq_windows.specs.Values.{ClosureValue, ExceptionValue, IntValue, IsMadeTable, LocationValue, OkayValue, PlainValue, Table, TextValue, ThreadValue, TruthValue, proc_of, read_all, read_value, read_values}
 use Rattle.obq_windows.proofs.Around.{asks, found_in, links_frames, pushed, silent, stepped, suffixes_frames, to_here, to_pushed}
 use Rattle.obq_windows.proofs.Begins.{args_right, callee_form, of_term, result_right, suffix_args}
 use Rattle.obq_windows.proofs.Closing.{rest_starts}
@@ -44,7 +44,7 @@ raise_given eq T a s OkayValue fs = to_here eq T a s fs _ (tree_raises (codes "t
 raise_given eq T a s (TextValue z) fs = to_here eq T a s fs _ (tree_raises (codes "type")) refl
 raise_given eq T a s (ExceptionValue z) fs = to_here eq T a s fs _ (tree_raises z) refl
 raise_given eq T a s (ThreadValue z) fs = to_here eq T a s fs _ (tree_raises (codes "type")) refl
-raise_given eq T a s (ClosureValue t c number cs) fs = to_here eq T a s fs _ (tree_raises (codes "type")) (closure_cases T (read_values T cs) (T.procs number) (λ f. find eq (activations_at a (frames_of T fs)) (self_at s (frames_of T fs)) (Form Raise (Part (Const f) End)) ≡ Next (wrong_type)) (λ params body. refl) (λ names G i. refl))
+raise_given eq T a s (ClosureValue t c group index cs) fs = to_here eq T a s fs _ (tree_raises (codes "type")) (closure_cases T (read_values T cs) (proc_of T group index) (λ f. find eq (activations_at a (frames_of T fs)) (self_at s (frames_of T fs)) (Form Raise (Part (Const f) End)) ≡ Next (wrong_type)) (λ params body. refl) (λ names G i. refl))
 raise_given eq T a s (LocationValue k z) fs = to_here eq T a s fs _ (tree_raises (codes "type")) refl
 
 if_given : {R : Type 0} → (eq : R → R → Bool) (T : Table R) (a : ℕ) (s : Self R) (v : PlainValue R) (p : Place R) (b : BlockTree) (arms : ArmTrees) (last : MaybeBlock) (fs : List (TreeFrame R))
@@ -56,7 +56,7 @@ if_given eq T a s OkayValue p b arms last fs = to_here eq T a s fs _ (tree_raise
 if_given eq T a s (TextValue z) p b arms last fs = to_here eq T a s fs _ (tree_raises (codes "type")) refl
 if_given eq T a s (ExceptionValue z) p b arms last fs = to_here eq T a s fs _ (tree_raises (codes "type")) refl
 if_given eq T a s (ThreadValue z) p b arms last fs = to_here eq T a s fs _ (tree_raises (codes "type")) refl
-if_given eq T a s (ClosureValue t c number cs) p b arms last fs = to_here eq T a s fs _ (tree_raises (codes "type")) (closure_cases T (read_values T cs) (T.procs number) (λ f. find eq (activations_at a (frames_of T fs)) (self_at s (frames_of T fs)) (Form If (Part (Const f) (Part (block_at T p b) (Part (if_at T p arms last) End)))) ≡ Next (wrong_type)) (λ params body. refl) (λ names G i. refl))
+if_given eq T a s (ClosureValue t c group index cs) p b arms last fs = to_here eq T a s fs _ (tree_raises (codes "type")) (closure_cases T (read_values T cs) (proc_of T group index) (λ f. find eq (activations_at a (frames_of T fs)) (self_at s (frames_of T fs)) (Form If (Part (Const f) (Part (block_at T p b) (Part (if_at T p arms last) End)))) ≡ Next (wrong_type)) (λ params body. refl) (λ names G i. refl))
 if_given eq T a s (LocationValue k z) p b arms last fs = to_here eq T a s fs _ (tree_raises (codes "type")) refl
 
 -- an operator that becomes its right side, inside of further ones
@@ -74,7 +74,7 @@ or_given eq T a s OkayValue p e links fs = to_here eq T a s (with_links p links 
 or_given eq T a s (TextValue z) p e links fs = to_here eq T a s (with_links p links fs) _ (tree_raises (codes "type")) refl
 or_given eq T a s (ExceptionValue z) p e links fs = to_here eq T a s (with_links p links fs) _ (tree_raises (codes "type")) refl
 or_given eq T a s (ThreadValue z) p e links fs = to_here eq T a s (with_links p links fs) _ (tree_raises (codes "type")) refl
-or_given eq T a s (ClosureValue t c number cs) p e links fs = to_here eq T a s (with_links p links fs) _ (tree_raises (codes "type")) (closure_cases T (read_values T cs) (T.procs number) (λ f. find eq (activations_at a (frames_of T (with_links p links fs))) (self_at s (frames_of T (with_links p links fs))) (Form OrIf (Part (Const f) (Part (expr_at T p e) End))) ≡ Next (wrong_type)) (λ params body. refl) (λ names G i. refl))
+or_given eq T a s (ClosureValue t c group index cs) p e links fs = to_here eq T a s (with_links p links fs) _ (tree_raises (codes "type")) (closure_cases T (read_values T cs) (proc_of T group index) (λ f. find eq (activations_at a (frames_of T (with_links p links fs))) (self_at s (frames_of T (with_links p links fs))) (Form OrIf (Part (Const f) (Part (expr_at T p e) End))) ≡ Next (wrong_type)) (λ params body. refl) (λ names G i. refl))
 or_given eq T a s (LocationValue k z) p e links fs = to_here eq T a s (with_links p links fs) _ (tree_raises (codes "type")) refl
 
 and_given : {R : Type 0} → (eq : R → R → Bool) (T : Table R) (a : ℕ) (s : Self R) (v : PlainValue R) (p : Place R) (e : ExprTree) (links : LinkTrees) (fs : List (TreeFrame R))
@@ -87,7 +87,7 @@ and_given eq T a s OkayValue p e links fs = to_here eq T a s (with_links p links
 and_given eq T a s (TextValue z) p e links fs = to_here eq T a s (with_links p links fs) _ (tree_raises (codes "type")) refl
 and_given eq T a s (ExceptionValue z) p e links fs = to_here eq T a s (with_links p links fs) _ (tree_raises (codes "type")) refl
 and_given eq T a s (ThreadValue z) p e links fs = to_here eq T a s (with_links p links fs) _ (tree_raises (codes "type")) refl
-and_given eq T a s (ClosureValue t c number cs) p e links fs = to_here eq T a s (with_links p links fs) _ (tree_raises (codes "type")) (closure_cases T (read_values T cs) (T.procs number) (λ f. find eq (activations_at a (frames_of T (with_links p links fs))) (self_at s (frames_of T (with_links p links fs))) (Form AndIf (Part (Const f) (Part (expr_at T p e) End))) ≡ Next (wrong_type)) (λ params body. refl) (λ names G i. refl))
+and_given eq T a s (ClosureValue t c group index cs) p e links fs = to_here eq T a s (with_links p links fs) _ (tree_raises (codes "type")) (closure_cases T (read_values T cs) (proc_of T group index) (λ f. find eq (activations_at a (frames_of T (with_links p links fs))) (self_at s (frames_of T (with_links p links fs))) (Form AndIf (Part (Const f) (Part (expr_at T p e) End))) ≡ Next (wrong_type)) (λ params body. refl) (λ names G i. refl))
 and_given eq T a s (LocationValue k z) p e links fs = to_here eq T a s (with_links p links fs) _ (tree_raises (codes "type")) refl
 
 left_given : {R : Type 0} → (eq : R → R → Bool) (T : Table R) (a : ℕ) (s : Self R) (v : PlainValue R) (p : Place R) (op : Operator) (e : ExprTree) (links : LinkTrees) (fs : List (TreeFrame R))
@@ -104,7 +104,7 @@ select_given eq T a s OkayValue p x place ss fs = to_here eq T a s (with_suffixe
 select_given eq T a s (TextValue z) p x place ss fs = to_here eq T a s (with_suffixes p ss fs) _ (tree_raises (codes "type")) refl
 select_given eq T a s (ExceptionValue z) p x place ss fs = to_here eq T a s (with_suffixes p ss fs) _ (tree_raises (codes "type")) refl
 select_given eq T a s (ThreadValue z) p x place ss fs = to_here eq T a s (with_suffixes p ss fs) _ (tree_raises (codes "type")) refl
-select_given eq T a s (ClosureValue t c number cs) p x place ss fs = to_here eq T a s (with_suffixes p ss fs) _ (tree_raises (codes "type")) (closure_cases T (read_values T cs) (T.procs number) (λ f. find eq (activations_at a (frames_of T (with_suffixes p ss fs))) (self_at s (frames_of T (with_suffixes p ss fs))) (Form (Select x) (Part (Const f) End)) ≡ Next (wrong_type)) (λ params body. refl) (λ names G i. refl))
+select_given eq T a s (ClosureValue t c group index cs) p x place ss fs = to_here eq T a s (with_suffixes p ss fs) _ (tree_raises (codes "type")) (closure_cases T (read_values T cs) (proc_of T group index) (λ f. find eq (activations_at a (frames_of T (with_suffixes p ss fs))) (self_at s (frames_of T (with_suffixes p ss fs))) (Form (Select x) (Part (Const f) End)) ≡ Next (wrong_type)) (λ params body. refl) (λ names G i. refl))
 select_given eq T a s (LocationValue Object o) p x place ss fs = asks eq T a s (with_suffixes p ss fs) _ (PlainGet o x) (TreeValue OkayValue) refl
 select_given eq T a s (LocationValue Array o) p x place ss fs = to_here eq T a s (with_suffixes p ss fs) _ (tree_raises (codes "type")) refl
 select_given eq T a s (LocationValue Variable o) p x place ss fs = to_here eq T a s (with_suffixes p ss fs) _ (tree_raises (codes "type")) refl
@@ -136,7 +136,7 @@ guard_given {R} eq T a s (ExceptionValue z) p e b arms last fs = at (bytes_eq e 
   at true q = to_here eq T a s fs _ (TreeRun p (BlockTask b)) (ap (λ (c : Bool). Next (if c then block_at T p b else choose e (arms_at T p arms last))) q)
   at false q = arms_start eq T a s fs _ p e arms last (ap (λ (c : Bool). Next (if c then block_at T p b else choose e (arms_at T p arms last))) q)
 guard_given eq T a s (ThreadValue z) p e b arms last fs = to_here eq T a s fs _ (tree_raises (codes "type")) refl
-guard_given eq T a s (ClosureValue t c number cs) p e b arms last fs = to_here eq T a s fs _ (tree_raises (codes "type")) (closure_cases T (read_values T cs) (T.procs number) (λ f. find eq (activations_at a (frames_of T fs)) (self_at s (frames_of T fs)) (Form (Choosing e) (Part (Const f) (Part (block_at T p b) (arms_at T p arms last)))) ≡ Next (wrong_type)) (λ params body. refl) (λ names G i. refl))
+guard_given eq T a s (ClosureValue t c group index cs) p e b arms last fs = to_here eq T a s fs _ (tree_raises (codes "type")) (closure_cases T (read_values T cs) (proc_of T group index) (λ f. find eq (activations_at a (frames_of T fs)) (self_at s (frames_of T fs)) (Form (Choosing e) (Part (Const f) (Part (block_at T p b) (arms_at T p arms last)))) ≡ Next (wrong_type)) (λ params body. refl) (λ names G i. refl))
 guard_given eq T a s (LocationValue k z) p e b arms last fs = to_here eq T a s fs _ (tree_raises (codes "type")) refl
 
 try_value : {R : Type 0} → (eq : R → R → Bool) (a : ℕ) (s : Self R) (v : Value R) (arms : Parts R) → find_part eq a s Try (v ∷ []) arms ≡ Next (Const v)
@@ -168,14 +168,14 @@ to_given eq T a s (IntValue m) OkayValue p x b fs = to_here eq T a s fs _ (tree_
 to_given eq T a s (IntValue m) (TextValue z) p x b fs = to_here eq T a s fs _ (tree_raises (codes "type")) refl
 to_given eq T a s (IntValue m) (ExceptionValue z) p x b fs = to_here eq T a s fs _ (tree_raises (codes "type")) refl
 to_given eq T a s (IntValue m) (ThreadValue z) p x b fs = to_here eq T a s fs _ (tree_raises (codes "type")) refl
-to_given eq T a s (IntValue m) (ClosureValue tz cz cnz csz) p x b fs = to_here eq T a s fs _ (tree_raises (codes "type")) (closure_cases T (read_values T csz) (T.procs cnz) (λ f. find eq (activations_at a (frames_of T fs)) (self_at s (frames_of T fs)) (Form For (Part (Const (Int m)) (Part (Const f) (Part (scope_at T p x b) End)))) ≡ Next (wrong_type)) (λ params body. refl) (λ names G i. refl))
+to_given eq T a s (IntValue m) (ClosureValue tz cz gz iz csz) p x b fs = to_here eq T a s fs _ (tree_raises (codes "type")) (closure_cases T (read_values T csz) (proc_of T gz iz) (λ f. find eq (activations_at a (frames_of T fs)) (self_at s (frames_of T fs)) (Form For (Part (Const (Int m)) (Part (Const f) (Part (scope_at T p x b) End)))) ≡ Next (wrong_type)) (λ params body. refl) (λ names G i. refl))
 to_given eq T a s (IntValue m) (LocationValue kz z) p x b fs = to_here eq T a s fs _ (tree_raises (codes "type")) refl
 to_given eq T a s (TruthValue y) w p x b fs = to_here eq T a s fs _ (tree_raises (codes "type")) refl
 to_given eq T a s OkayValue w p x b fs = to_here eq T a s fs _ (tree_raises (codes "type")) refl
 to_given eq T a s (TextValue y) w p x b fs = to_here eq T a s fs _ (tree_raises (codes "type")) refl
 to_given eq T a s (ExceptionValue y) w p x b fs = to_here eq T a s fs _ (tree_raises (codes "type")) refl
 to_given eq T a s (ThreadValue y) w p x b fs = to_here eq T a s fs _ (tree_raises (codes "type")) refl
-to_given eq T a s (ClosureValue ty cy cny csy) w p x b fs = to_here eq T a s fs _ (tree_raises (codes "type")) (closure_cases T (read_values T csy) (T.procs cny) (λ f. find eq (activations_at a (frames_of T fs)) (self_at s (frames_of T fs)) (Form For (Part (Const f) (Part (Const (read_value T w)) (Part (scope_at T p x b) End)))) ≡ Next (wrong_type)) (λ params body. refl) (λ names G i. refl))
+to_given eq T a s (ClosureValue ty cy gy iy csy) w p x b fs = to_here eq T a s fs _ (tree_raises (codes "type")) (closure_cases T (read_values T csy) (proc_of T gy iy) (λ f. find eq (activations_at a (frames_of T fs)) (self_at s (frames_of T fs)) (Form For (Part (Const f) (Part (Const (read_value T w)) (Part (scope_at T p x b) End)))) ≡ Next (wrong_type)) (λ params body. refl) (λ names G i. refl))
 to_given eq T a s (LocationValue ky y) w p x b fs = to_here eq T a s fs _ (tree_raises (codes "type")) refl
 
 -- a value in a frame

@@ -14,7 +14,7 @@ use Rattle.obq_model.specs.Scopes.{is_covered, last_place, last_place_from, slot
 use Rattle.obq_model.specs.Terms.{Array, Bytes, Condition, Engine, Object, Variable, Writer}
 use Rattle.obq_model.proofs.Among.{bytes_sym, true_false}
 use Rattle.obq_model.proofs.Drafted.{Drafted}
-use Rattle.obq_model.proofs.Places.{among_place, or_else, place_found}
+use Rattle.obq_model.proofs.Places.{among_place, or_else, place_below, place_found}
 use Rattle.obq_model.proofs.Skips.{ends}
 use Rattle.obq_windows.specs.Agrees.{Agrees, FocusIs, FramesAre, IsBound, Same, StandsAt, place_at}
 use Rattle.obq_windows.specs.Trees.{Bound, Tag, TreeFocus, TreeFrame, begin_name, bound_names, bound_values, captured_values, last_bound, member_at, or_this, outside_at, proc_group, proc_outside, tree_moved, used, value_of, value_or_okay}
@@ -80,29 +80,34 @@ local_value {R} act b bound w x =
       same j k e = omega (arith, e)
 
 -- what a covered name stands for is in its slot, and no slot of a covered name is `stdout`
-pub slot_is : {R : Type 0} → (T : Table R) (S : Store R) → Agrees T S → (act : Activation R) (b : ℕ) (bound : List (Bound R)) → IsBound act b bound → (x : Bytes) → is_covered (outside_at T (place_at act bound)) (bound_names bound) x ≡ true
+pub slot_is : {R : Type 0} → (T : Table R) (S : Store R) (act : Activation R) (b : ℕ) (bound : List (Bound R)) → IsBound act b bound → ((k : ℕ) → k < length (outside_at T (place_at act bound)).members → act.group ≡ proc_group (T.procs act.code)) → (x : Bytes) → is_covered (outside_at T (place_at act bound)) (bound_names bound) x ≡ true
     → value_of T (place_at act bound) x ≡ Some (slot_value S act (slot_of (outside_at T (place_at act bound)) (bound_names bound) x))
-slot_is {R} T S g act b bound w x c =
+slot_is {R} T S act b bound w mg x c =
     ap (λ (o : Option (PlainValue R)). or_else o (or_else (option_map (member_at (proc_group (T.procs act.code)) (place_at act bound)) (last_place x (proc_outside (T.procs act.code)).members)) (option_map (captured_at act.captured) (last_place x (proc_outside (T.procs act.code)).captured)))) (local_value act b bound w x)
-    ∙ at (last_place x (bound_names bound)) (last_place x (proc_outside (T.procs act.code)).members) (last_place x (proc_outside (T.procs act.code)).captured)
+    ∙ at (last_place x (bound_names bound)) (last_place x (proc_outside (T.procs act.code)).members) refl (last_place x (proc_outside (T.procs act.code)).captured)
     (sym (ap (λ d. d || (is_some (last_place x (proc_outside (T.procs act.code)).members) || is_some (last_place x (proc_outside (T.procs act.code)).captured))) (among_place 0 x (bound_names bound)))
     ∙ sym (ap (λ d. among x (bound_names bound) || (d || is_some (last_place x (proc_outside (T.procs act.code)).captured))) (among_place 0 x (proc_outside (T.procs act.code)).members))
     ∙ sym (ap (λ d. among x (bound_names bound) || (among x (proc_outside (T.procs act.code)).members || d)) (among_place 0 x (proc_outside (T.procs act.code)).captured)) ∙ c) where
-      at : (o m k : Option ℕ) → (is_some o || (is_some m || is_some k)) ≡ true
+      below : (j : ℕ) → last_place x (proc_outside (T.procs act.code)).members ≡ Some j → j < length (proc_outside (T.procs act.code)).members
+      below j q = from_zero j (length (proc_outside (T.procs act.code)).members) (place_below 0 x (proc_outside (T.procs act.code)).members j q) where
+        from_zero : (j m : ℕ) → j < 0 + m → j < m
+        from_zero j m l = omega (arith, l)
+
+      at : (o m : Option ℕ) → last_place x (proc_outside (T.procs act.code)).members ≡ m → (k : Option ℕ) → (is_some o || (is_some m || is_some k)) ≡ true
           → or_else (option_map (λ j. unwrap_or (slice_get act.locals j) OkayValue) o) (or_else (option_map (member_at (proc_group (T.procs act.code)) (place_at act bound)) m) (option_map (captured_at act.captured) k))
           ≡ Some (slot_value S act (slot_or s.Local o (slot_or s.Member m (slot_or s.Captured k (s.Stdout (proc_outside (T.procs act.code)).source)))))
-      at (Some j) m k e = refl
-      at None (Some j) k e = ap (λ (l : List CodeNo). Some (ClosureValue act.thread act.count (unwrap_or (slice_get l j) act.code) act.captured)) (sym (g.group act.code))
-      at None None (Some j) e = refl
-      at None None None e = absurd (true_false (sym e))
+      at (Some j) m q k e = refl
+      at None (Some j) q k e = ap (λ (l : List CodeNo). Some (ClosureValue act.thread act.count l j act.captured)) (sym (mg j (below j q)))
+      at None None q (Some j) e = refl
+      at None None q None e = absurd (true_false (sym e))
 
-pub capture_is : {R : Type 0} → (T : Table R) (S : Store R) → Agrees T S → (act : Activation R) (b : ℕ) (bound : List (Bound R)) → IsBound act b bound → (xs : List Bytes)
+pub capture_is : {R : Type 0} → (T : Table R) (S : Store R) (act : Activation R) (b : ℕ) (bound : List (Bound R)) → IsBound act b bound → ((k : ℕ) → k < length (outside_at T (place_at act bound)).members → act.group ≡ proc_group (T.procs act.code)) → (xs : List Bytes)
     → ((x : Bytes) → among x xs ≡ true → is_covered (outside_at T (place_at act bound)) (bound_names bound) x ≡ true)
     → capture S act (slots_of (outside_at T (place_at act bound)) (bound_names bound) xs) ≡ captured_values T (place_at act bound) xs
-capture_is T S g act b bound w [] h = refl
-capture_is {R} T S g act b bound w (x ∷ xs) h =
-    ap (λ (v : PlainValue R). AValue v (capture S act (slots_of (outside_at T (place_at act bound)) (bound_names bound) xs))) (sym (ap value_or_okay (slot_is T S g act b bound w x (h x (own x xs)))))
-    ∙ ap (AValue (value_or_okay (value_of T (place_at act bound) x))) (capture_is T S g act b bound w xs (λ y e. h y (further y x xs e))) where
+capture_is T S act b bound w mg [] h = refl
+capture_is {R} T S act b bound w mg (x ∷ xs) h =
+    ap (λ (v : PlainValue R). AValue v (capture S act (slots_of (outside_at T (place_at act bound)) (bound_names bound) xs))) (sym (ap value_or_okay (slot_is T S act b bound w mg x (h x (own x xs)))))
+    ∙ ap (AValue (value_or_okay (value_of T (place_at act bound) x))) (capture_is T S act b bound w mg xs (λ y e. h y (further y x xs e))) where
       own : (x : Bytes) (xs : List Bytes) → among x (x ∷ xs) ≡ true
       own x xs = ap (λ c. c || among x xs) ((bytes_eq-Decides x x).1 refl)
 
@@ -126,11 +131,11 @@ used_alike T S act b ns fs fr OkayValue = inr (record { tag = refl; makes = refl
 used_alike T S act b ns fs fr (TextValue z) = inr (record { tag = refl; makes = refl; height = b; frames = fr; focus = refl })
 used_alike T S act b ns fs fr (ExceptionValue z) = inr (record { tag = refl; makes = refl; height = b; frames = fr; focus = refl })
 used_alike T S act b ns fs fr (ThreadValue z) = inr (record { tag = refl; makes = refl; height = b; frames = fr; focus = refl })
-used_alike T S act b ns fs fr (ClosureValue t c number cs) = inr (record { tag = refl; makes = refl; height = b; frames = fr; focus = refl })
+used_alike T S act b ns fs fr (ClosureValue t c group index cs) = inr (record { tag = refl; makes = refl; height = b; frames = fr; focus = refl })
 
-pub name_alike : {R : Type 0} → (T : Table R) (S : Store R) → Agrees T S → (act : Activation R) (b : ℕ) (bound : List (Bound R)) → IsBound act b bound → (ns : List (NodeFrame R)) (fs : List (TreeFrame R)) → FramesAre T S act b ns fs → (x : Bytes)
+pub name_alike : {R : Type 0} → (T : Table R) (S : Store R) → Agrees T S → (act : Activation R) (b : ℕ) (bound : List (Bound R)) → IsBound act b bound → ((k : ℕ) → k < length (outside_at T (place_at act bound)).members → act.group ≡ proc_group (T.procs act.code)) → (ns : List (NodeFrame R)) (fs : List (TreeFrame R)) → FramesAre T S act b ns fs → (x : Bytes)
     → Same T S (use_node S act ns (slot_of (outside_at T (place_at act bound)) (bound_names bound) x)) (begin_name T (place_at act bound) (is_covered (outside_at T (place_at act bound)) (bound_names bound) x) x fs)
-name_alike {R} T S g act b bound w ns fs fr x =
+name_alike {R} T S g act b bound w mg ns fs fr x =
     at (last_place x (bound_names bound)) refl (last_place x (proc_outside (T.procs act.code)).members) refl (last_place x (proc_outside (T.procs act.code)).captured) refl where
       cover : (o m k : Option ℕ) → last_place x (bound_names bound) ≡ o → last_place x (proc_outside (T.procs act.code)).members ≡ m → last_place x (proc_outside (T.procs act.code)).captured ≡ k
           → is_covered (outside_at T (place_at act bound)) (bound_names bound) x ≡ (is_some o || (is_some m || is_some k))
@@ -151,7 +156,7 @@ name_alike {R} T S g act b bound w ns fs fr x =
       with_value sl e u c =
           subst (λ (m : NodeMoved R). Same T S m (begin_name T (place_at act bound) (is_covered (outside_at T (place_at act bound)) (bound_names bound) x) x fs)) (sym (ap (use_node S act ns) e ∙ u))
           (subst (λ (d : Bool). Same T S (use_slot true act ns (slot_value S act sl)) (begin_name T (place_at act bound) d x fs)) (sym c)
-          (subst (λ (o : Option (PlainValue R)). Same T S (use_slot true act ns (slot_value S act sl)) (used o fs)) (sym (slot_is T S g act b bound w x c ∙ ap (λ z. Some (slot_value S act z)) e)) (used_alike T S act b ns fs fr (slot_value S act sl))))
+          (subst (λ (o : Option (PlainValue R)). Same T S (use_slot true act ns (slot_value S act sl)) (used o fs)) (sym (slot_is T S act b bound w mg x c ∙ ap (λ z. Some (slot_value S act z)) e)) (used_alike T S act b ns fs fr (slot_value S act sl))))
 
       at : (o : Option ℕ) → last_place x (bound_names bound) ≡ o → (m : Option ℕ) → last_place x (proc_outside (T.procs act.code)).members ≡ m → (k : Option ℕ) → last_place x (proc_outside (T.procs act.code)).captured ≡ k
           → Same T S (use_node S act ns (slot_of (outside_at T (place_at act bound)) (bound_names bound) x)) (begin_name T (place_at act bound) (is_covered (outside_at T (place_at act bound)) (bound_names bound) x) x fs)

@@ -13,7 +13,7 @@ use Rattle.obq_model.specs.Terms.{Apply, Array, Bytes, Condition, Const, Engine,
 use Rattle.obq_model.proofs.Plug.{plug_append}
 use Rattle.obq_windows.specs.Meanings.{Moves}
 use Rattle.obq_windows.specs.Trees.{BlockTask, ExprTask, HintExpr, HintItems, HintTask, ItemsTask, PendingFirst, PendingHead, PendingIf, PendingLast, PendingLet, PendingLoop, PendingRaise, PendingThen, PendingTry, Place, PlainRead, Silent, Tag, Task, ToArray, ToBuiltin, TreeFrame, TreeRaising, TreeRun, TreeValue, begin_args, begin_binds, begin_block, begin_expr, begin_if, begin_items, begin_name, begin_suffixes, begin_task, block_at, count_activations, env_at, expr_at, exprs_at, frames_of, going_on, if_at, items_at, links_around, names_at, outside_at, pending_frames, push, suffixes_around, task_term, tree_moved, tree_raises, used, value_of, with_suffixes, writer_at}
-use Rattle.obq_windows.specs.Values.{ClosureValue, ExceptionValue, IntValue, IsMadeTable, LocationValue, OkayValue, PlainValue, Table, TextValue, ThreadValue, TruthValue, read_value, read_values}
+use Rattle.obq_windows.specs.Values.{ClosureValue, ExceptionValue, IntValue, IsMadeTable, LocationValue, OkayValue, PlainValue, Table, TextValue, ThreadValue, TruthValue, proc_of, read_value, read_values}
 use Rattle.obq_windows.proofs.Around.{Starts, asks, chain_read, here, links_frames, pushed, silent, suffixes_frames, suffixes_read, to_here, to_pushed}
 use Rattle.obq_windows.proofs.Begins.{args_right, of_term, suffix_args}
 use Rattle.obq_windows.proofs.Closing.{letrec_begins, proc_begins, rest_starts}
@@ -57,7 +57,7 @@ name_begins {R} eq T a s p x fs true = at (value_of T p x) refl where
   at (Some (TextValue z)) e = value _ e refl
   at (Some (ExceptionValue z)) e = value _ e refl
   at (Some (ThreadValue z)) e = value _ e refl
-  at (Some (ClosureValue t c number cs)) e = value _ e (closure_cases T (read_values T cs) (T.procs number) (λ f. occurrence f ≡ Const f) (λ params body. refl) (λ names G i. refl))
+  at (Some (ClosureValue t c group index cs)) e = value _ e (closure_cases T (read_values T cs) (proc_of T group index) (λ f. occurrence f ≡ Const f) (λ params body. refl) (λ names G i. refl))
 
 suffixed : {R : Type 0} → (eq : R → R → Bool) (T : Table R) (a : ℕ) (s : Self R) → IsMadeTable T → (p : Place R) (e : ExprTree) (ss : SuffixTrees) (fs : List (TreeFrame R)) (o : Option ℕ)
     → Moves eq T a s (plug (frames_of T fs) (read (env_at T p) (elim o [ None ↦ open_suffixes (writer_at T p) (outside_at T p) (names_at p) (open_expr (writer_at T p) (outside_at T p) (names_at p) e) ss | Some r ↦ open_called (writer_at T p) (outside_at T p) (names_at p) r ss ])))
