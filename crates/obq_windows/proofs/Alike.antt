@@ -10,7 +10,6 @@ use Rattle.obq_model.specs.Depth.{is_too_deep}
 use Rattle.obq_model.specs.Draft.{Both, Plain, behind_first, called_row, captured_by, count_arms, count_exprs, count_suffixes, draft_arms, draft_expr, draft_maybe, draft_suffixes, field_names, has_block, operators_of}
 use Rattle.obq_model.specs.Occurrences.{free_procedure}
 use Rattle.obq_model.specs.Opened.{open_block}
-use Rattle.obq_model.specs.Procedures.{Proc}
 use Rattle.obq_model.specs.Reading.{hide, read}
 use Rattle.obq_model.specs.Scopes.{Outside, inside, slot_of, slots_of}
 use Rattle.obq_model.specs.Terms.{Bytes, ExitUp}

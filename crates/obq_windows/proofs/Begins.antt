@@ -2,6 +2,7 @@
 use Rattle.std.specs.Prelude.{Bool, List, None, Option, Some, [], codes, false, if◌then◌else◌, length, nat_lt, refl, slice_get, suc, true, ℕ, ◌&&◌, ◌==◌, ◌∷◌, ◌≡◌}
 use Rattle.std.proofs.Common.{subst, ap, sym, ◌∙◌}
 use Rattle.obq_base.specs.Tree.{ALink, ASuffix, AnExpr, ApplySuffix, ExprTrees, IndexSuffix, InvokeSuffix, LinkTrees, NoExprs, NoLinks, NoSuffixes, SelectSuffix, SuffixTree, SuffixTrees}
+use Rattle.obq_base.specs.declared.code.CodeNo.{CodeNo}
 use Rattle.obq_base.specs.declared.trees.Operator.{Operator}
 use Rattle.obq_model.specs.Builtins.{arity_of_builtin}
 use Rattle.obq_model.specs.Exceptions.{arity, array_limit, call_limit, raise}
@@ -16,7 +17,6 @@ use Rattle.obq_windows.specs.Values.{ClosureValue, ExceptionValue, IntValue, IsM
 use Rattle.obq_windows.proofs.Around.{asks, found_in, pushed, silent, to_here}
 use Rattle.obq_windows.proofs.Calls.{callable, entered_right}
 use Rattle.obq_windows.proofs.Results.{ResultIs, built_is, closure_cases}
-use Rattle.obq_base.specs.declared.code.CodeNo.{CodeNo}
 
 -- the same of a term that is spelled in another way
 pub of_term : {R : Type 0} → (eq : R → R → Bool) (T : Table R) (a : ℕ) (s : Self R) (t u : Term R) (m : TreeMoved R) → t ≡ u → Moves eq T a s u m → Moves eq T a s t m

@@ -1,12 +1,11 @@
 -- The laws on one small source, `for i := 1 to 2 do end`: its table and store are as the laws ask, and its run computes.
-use Rattle.std.specs.Prelude.{List, Option, Some, [], drop, pos, refl, suc, unwrap_or, zero, ℕ, ◌<◌, ◌∷◌, ◌≡◌}
-use Rattle.std.proofs.Common.{inl, subst, ap, arith}
+use Rattle.std.specs.Prelude.{List, Some, [], drop, pos, refl, suc, zero, ℕ, ◌∷◌, ◌≡◌}
+use Rattle.std.proofs.Common.{inl}
 use Rattle.obq_base.specs.declared.code.Node.TheVariants as n
 use Rattle.obq_base.specs.Tree.{AnItem, BlockOf, BlockTree, ForTree, IntTree, NoItems, PlainItem}
-use Rattle.obq_base.specs.declared.code.CodeNo.{CodeNo}
 use Rattle.obq_base.specs.declared.code.Node.{Node}
 use Rattle.obq_model.specs.Opening.{block_term}
-use Rattle.obq_model.specs.Procedures.{IsMade, Proc, main_proc}
+use Rattle.obq_model.specs.Procedures.{main_proc}
 use Rattle.obq_model.specs.Skipped.{skipped}
 use Rattle.obq_model.specs.Step.{no_self}
 use Rattle.obq_model.specs.Store.{same_loc}
@@ -14,9 +13,9 @@ use Rattle.obq_model.specs.Terms.{Const, Okay}
 use Rattle.obq_windows.specs.Agrees.{Agrees}
 use Rattle.obq_windows.specs.Laws.{RunReads}
 use Rattle.obq_windows.specs.Runs.{AtBottom, Ran, pure_steps, run_nodes}
-use Rattle.obq_windows.specs.Values.{IsMadeTable, NoValues, Table}
+use Rattle.obq_windows.specs.Values.{NoValues, Table}
 use Rattle.obq_windows.specs.Windows.{NodeRun, Store, activation_of}
-use Rattle.obq_windows.proofs.Mains.{opening_runs}
+use Rattle.obq_windows.proofs.Openings.{opening_runs}
 
 tree : BlockTree
 tree = BlockOf (AnItem (PlainItem (ForTree (105 ∷ []) (IntTree (pos 1) 0) (IntTree (pos 2) 0) (BlockOf NoItems 0) 0)) NoItems) 0
@@ -39,18 +38,6 @@ table = record { procs = λ number. Some (main_proc 0 tree); writer = λ source.
 store : Store ℕ
 unfolding nodes end_of
 store = record { code = λ number. Some (record { params = 0; captures = 0; nodes = nodes }); end = λ number at. end_of at; writer = λ source. source }
-
-some_is : (p : Proc) → Some (main_proc 0 tree) ≡ Some p → main_proc 0 tree ≡ p
-some_is p e = ap (λ (o : Option Proc). unwrap_or o (main_proc 0 tree)) e
-
-none_below : (k : ℕ) → k < 0 → ⊥
-none_below k l = omega (arith, l)
-
-is_table : IsMadeTable table
-unfolding table
-is_table = record { made = λ number p e. opening (some_is p e) } where
-  opening : {number : CodeNo} {p : Proc} → main_proc 0 tree ≡ p → IsMade table.procs number p
-  opening {number} {p} e = subst (λ (q : Proc). IsMade table.procs number q) e (inl (record { source = 0; outside = refl; group = refl }))
 
 behind : (k : ℕ) → [] ≡ skipped 1 (drop {A = Node} k [])
 behind zero = refl
@@ -110,4 +97,4 @@ opened = refl
 
 reads : RunReads same_loc table store 0 no_self (block_term 0 [] tree) ran
 unfolding ran table store tree
-reads = opening_runs table store is_table agree 0 refl (record { source = 0; n = 0 }) tree refl refl 0 40
+reads = opening_runs same_loc table store agree 0 (record { source = 0; n = 0 }) tree refl refl 0 40

@@ -14,8 +14,8 @@ pub mod Frames
 pub mod Gives
 pub mod Keeps
 pub mod Lists
-pub mod Mains
 pub mod Members
+pub mod Openings
 pub mod Raises
 pub mod Results
 pub mod Running

@@ -2,6 +2,7 @@ pub mod Agrees
 pub mod Complete
 pub mod Laws
 pub mod Meanings
+pub mod Programs
 pub mod Runs
 pub mod Trees
 pub mod Values

@@ -1,14 +1,8 @@
 //! Windows of the pure machine against its terms: laws and definitions. No code runs here.
 #![tactic(auto)]
 
-ghost use Rattle.obq_windows.specs.Laws.{
-  OpeningReads,
-  OpeningRuns,
-  RunMoves,
-  StepsAreThose,
-  TreeMoves,
-  WindowMoves,
-};
+ghost use Rattle.obq_windows.specs.Laws.{OpeningReads, OpeningRuns, RunMoves, StepsAreThose, TreeMoves, WindowMoves};
+ghost use Rattle.obq_windows.specs.Programs.{ProgramsAgree, ProgramsRun};
 
 /// What stands next in the term of a window over trees is what its move says.
 pub fn tree_moves<R>()
@@ -31,11 +25,21 @@ pub fn steps_are_those()
 {}
 
 /// A source's main window reads back as what its block opens as.
-pub fn opening_reads()
-    ensures law { OpeningReads }
+pub fn opening_reads<R>()
+    ensures law { OpeningReads R }
 {}
 
 /// Runs of that window come to the pure steps of the opening.
-pub fn opening_runs()
-    ensures law { OpeningRuns }
+pub fn opening_runs<R>()
+    ensures law { OpeningRuns R }
+{}
+
+/// The table of a program's procedures agrees with the store of its codes, whatever writer each source has.
+pub fn programs_agree<R>()
+    ensures law { ProgramsAgree R }
+{}
+
+/// A program that was resolved has a table under which the main window of each of its sources runs as the source's block opens.
+pub fn programs_run<R>()
+    ensures law { ProgramsRun R }
 {}
