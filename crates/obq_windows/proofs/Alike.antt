@@ -25,6 +25,7 @@ use Rattle.obq_windows.specs.Windows.{Activation, NodeChain, NodeFirst, NodeFram
 use Rattle.obq_windows.proofs.AlikeCalls.{args_alike}
 use Rattle.obq_windows.proofs.Lists.{item_here}
 use Rattle.obq_windows.proofs.Slots.{alike, behind_none, capture_is, first_of, name_alike, next_here, node_here, not_above, regrouped, second_of}
+use Rattle.obq_base.specs.declared.limits.TheConstants.{CLOSURE_LIMIT}
 
 -- the rest of the arms of an `if`
 pub arms_alike : {R : Type 0} → (T : Table R) (S : Store R) → Agrees T S → (tag : Tag R) (act : Activation R) (b : ℕ) (bound : List (Bound R)) → IsBound act b bound → (ns : List (NodeFrame R)) (fs : List (TreeFrame R)) → FramesAre T S act b ns fs → (at : ℕ) (arms : ArmTrees) (last : MaybeBlock)
@@ -59,7 +60,7 @@ proc_alike : {R : Type 0} → (T : Table R) (S : Store R) → Agrees T S → (a 
 proc_alike {R} T S g a thread count act b bound d w ns fs fr at params block place h =
     at_node T S act.code at (n.Proc h.nodes.0 (slots_of (outside_at T (place_at act bound)) (bound_names bound) (captured_by (outside_at T (place_at act bound)) (bound_names bound) (AProc params block place)))) (begin_node S a thread count act ns at b) _
     (item_here (nodes_of (S.code act.code)) at _ h.nodes.1 h.nodes.2)
-    (subst (λ (vs : PlainValues R). Same T S (if nat_lt 1000 (depth_of_values vs) then node_moved Stepped act ns (node_raises (codes "closure_limit")) else node_made act ns (NodeValue (ClosureValue thread count (h.nodes.0 ∷ []) 0 vs))) (begin_proc T thread count (h.nodes.0 ∷ []) (place_at act bound) (AProc params block place) fs))
+    (subst (λ (vs : PlainValues R). Same T S (if nat_lt CLOSURE_LIMIT (depth_of_values vs) then node_moved Stepped act ns (node_raises (codes "closure_limit")) else node_made act ns (NodeValue (ClosureValue thread count (h.nodes.0 ∷ []) 0 vs))) (begin_proc T thread count (h.nodes.0 ∷ []) (place_at act bound) (AProc params block place) fs))
     (sym (capture_is T S act b bound w d.members (captured_by (outside_at T (place_at act bound)) (bound_names bound) (AProc params block place)) (λ x e. captured_covered (outside_at T (place_at act bound)) (bound_names bound) (free_procedure [] (AProc params block place)) x e)))
     (subst (λ (c : Bool). Same T S (if c then node_moved Stepped act ns (node_raises (codes "closure_limit")) else node_made act ns (NodeValue (ClosureValue thread count (h.nodes.0 ∷ []) 0 (captured_values T (place_at act bound) (captured_by (outside_at T (place_at act bound)) (bound_names bound) (AProc params block place))))))
     (begin_proc T thread count (h.nodes.0 ∷ []) (place_at act bound) (AProc params block place) fs))

@@ -1,5 +1,5 @@
 -- Calls: nodes and trees do the same.
-use Rattle.std.specs.Prelude.{Bool, List, None, Option, Some, [], codes, false, if◌then◌else◌, length, nat_lt, refl, slice_get, suc, take, true, zero, ℕ, ◌==◌, ◌∷◌, ◌≡◌, ◌≤◌}
+use Rattle.std.specs.Prelude.{Bool, List, None, Option, Some, [], codes, false, if◌then◌else◌, length, refl, slice_get, suc, take, true, zero, ℕ, ◌==◌, ◌∷◌, ◌≡◌, ◌≤◌}
 use Rattle.std.proofs.Common.{inl, subst, ap, sym, ◌∙◌, arith}
 use Rattle.obq_base.specs.Tree.{AnExpr, ExprTrees, NoExprs}
 use Rattle.obq_base.specs.declared.code.Code.{Code}
@@ -20,6 +20,7 @@ use Rattle.obq_windows.proofs.Calls.{same_length}
 use Rattle.obq_windows.proofs.Envs.{zipped_names}
 use Rattle.obq_windows.proofs.Frames.{frames_up, length_values}
 use Rattle.obq_windows.proofs.Slots.{alike, first_of, not_above, second_of}
+use Rattle.obq_model.specs.Step.{is_call_limit}
 
 zipped_values : {R : Type 0} → (xs : List Bytes) (vs : List (PlainValue R)) → length xs ≡ length vs → take (length vs) vs ≡ bound_values (zipped xs vs)
 zipped_values [] [] e = refl
@@ -84,7 +85,7 @@ enter_alike {R} T S act b bound w ns fs fr thread count group number cs vs (Some
 
 pub call_alike : {R : Type 0} → (T : Table R) (S : Store R) → Agrees T S → (a : ℕ) (act : Activation R) (b : ℕ) (bound : List (Bound R)) → IsBound act b bound → (ns : List (NodeFrame R)) (fs : List (TreeFrame R)) → FramesAre T S act b ns fs → (v : PlainValue R) (vs : List (PlainValue R))
     → Same T S (call_node_plain S a v act vs ns) (call_plain T a v (place_at act bound) vs fs)
-call_alike {R} T S g a act b bound w ns fs fr (ClosureValue thread count group index cs) vs = by_limit (nat_lt 999 a) where
+call_alike {R} T S g a act b bound w ns fs fr (ClosureValue thread count group index cs) vs = by_limit (is_call_limit a) where
   by_code : (o : Option CodeNo) → Same T S (call_node_code S thread count group cs o act vs ns) (call_code T thread count group cs o (place_at act bound) vs fs)
   by_code None = alike T S Stepped act b ns (node_raises (codes "type")) fs (tree_raises (codes "type")) fr refl
   by_code (Some number) = enter_alike T S act b bound w ns fs fr thread count group number cs vs (S.code number) refl (g.code number)

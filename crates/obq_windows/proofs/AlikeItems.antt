@@ -24,6 +24,7 @@ use Rattle.obq_windows.proofs.Closing.{member_bound_names, names_append}
 use Rattle.obq_windows.proofs.Frames.{bound_all, frames_kept, frames_up}
 use Rattle.obq_windows.proofs.Lists.{item_here}
 use Rattle.obq_windows.proofs.Slots.{alike, capture_is, first_of, next_here, node_here, not_above, second_of}
+use Rattle.obq_base.specs.declared.limits.TheConstants.{CLOSURE_LIMIT}
 
 -- ---- items
 
@@ -85,10 +86,10 @@ letrec_alike : {R : Type 0} → (T : Table R) (S : Store R) → Agrees T S → (
 letrec_alike {R} T S g a thread count act b bound d w ns fs fr at bs place is h =
     at_node T S act.code at (n.LetRec (first_of T S h).nodes.0 (slots_of (outside_at T (place_at act bound)) (bound_names bound) (captured_by_group (outside_at T (place_at act bound)) (bound_names bound) bs))) (item_node S a thread count act ns at (count_items is) b) _
     (item_here (nodes_of (S.code act.code)) at _ (first_of T S h).nodes.1 (first_of T S h).nodes.2)
-    (subst (λ (vs : PlainValues R). Same T S (if nat_lt 1000 (depth_of_values vs) then node_moved Stepped act ns (node_raises (codes "closure_limit")) else node_closed (items_node Stepped (bind act b (group_values thread count (first_of T S h).nodes.0 0 vs (first_of T S h).nodes.0)) ns (S.end act.code at) (count_items is) (b + length (first_of T S h).nodes.0))) (begin_letrec T thread count (first_of T S h).nodes.0 (place_at act bound) bs is fs))
+    (subst (λ (vs : PlainValues R). Same T S (if nat_lt CLOSURE_LIMIT (depth_of_values vs) then node_moved Stepped act ns (node_raises (codes "closure_limit")) else node_closed (items_node Stepped (bind act b (group_values thread count (first_of T S h).nodes.0 0 vs (first_of T S h).nodes.0)) ns (S.end act.code at) (count_items is) (b + length (first_of T S h).nodes.0))) (begin_letrec T thread count (first_of T S h).nodes.0 (place_at act bound) bs is fs))
     (sym (capture_is T S act b bound w d.members (captured_by_group (outside_at T (place_at act bound)) (bound_names bound) bs) (λ x e. captured_covered (outside_at T (place_at act bound)) (bound_names bound) (free_members (member_names bs) bs) x e)))
     (subst (λ (c : Bool). Same T S (if c then node_moved Stepped act ns (node_raises (codes "closure_limit")) else node_closed (items_node Stepped (bind act b (group_values thread count (first_of T S h).nodes.0 0 (captured_values T (place_at act bound) (captured_by_group (outside_at T (place_at act bound)) (bound_names bound) bs)) (first_of T S h).nodes.0)) ns (S.end act.code at) (count_items is) (b + length (first_of T S h).nodes.0))) (begin_letrec T thread count (first_of T S h).nodes.0 (place_at act bound) bs is fs))
-    (sym (d.group bs)) (by_depth (nat_lt 1000 (deepest_of (letrec_parts T (place_at act bound) bs)))))) where
+    (sym (d.group bs)) (by_depth (nat_lt CLOSURE_LIMIT (deepest_of (letrec_parts T (place_at act bound) bs)))))) where
       by_depth : (c : Bool) → Same T S (if c then node_moved Stepped act ns (node_raises (codes "closure_limit")) else node_closed (items_node Stepped (bind act b (group_values thread count (first_of T S h).nodes.0 0 (captured_values T (place_at act bound) (captured_by_group (outside_at T (place_at act bound)) (bound_names bound) bs)) (first_of T S h).nodes.0)) ns (S.end act.code at) (count_items is) (b + length (first_of T S h).nodes.0)))
           (if c then tree_moved Stepped fs (tree_raises (codes "closure_limit")) else tree_closed (begin_rest Stepped (with_bound (place_at act bound) (member_values thread count (first_of T S h).nodes.0 0 (captured_values T (place_at act bound) (captured_by_group (outside_at T (place_at act bound)) (bound_names bound) bs)) (member_names bs))) is fs))
       by_depth true = alike T S Stepped act b ns (node_raises (codes "closure_limit")) fs (tree_raises (codes "closure_limit")) fr refl

@@ -17,6 +17,7 @@ use Rattle.obq_windows.specs.Values.{ClosureValue, ExceptionValue, IntValue, IsM
 use Rattle.obq_windows.proofs.Around.{asks, found_in, pushed, silent, to_here}
 use Rattle.obq_windows.proofs.Calls.{callable, entered_right}
 use Rattle.obq_windows.proofs.Results.{ResultIs, built_is, closure_cases}
+use Rattle.obq_base.specs.declared.limits.TheConstants.{ARRAY_LIMIT}
 
 -- the same of a term that is spelled in another way
 pub of_term : {R : Type 0} → (eq : R → R → Bool) (T : Table R) (a : ℕ) (s : Self R) (t u : Term R) (m : TreeMoved R) → t ≡ u → Moves eq T a s u m → Moves eq T a s t m
@@ -121,7 +122,7 @@ callee_form T ToIndex done after = Form Index (values_before (read_all T done) a
 callee_form T (ToInvoke x) done after = Form (Invoke x) (values_before (read_all T done) after)
 
 array_made_is : {R : Type 0} → (eq : R → R → Bool) (T : Table R) (a : ℕ) (s : Self R) (vs : List (PlainValue R)) → ResultIs T (row eq a s MakeArray (read_all T vs) End) (array_made vs)
-array_made_is {R} eq T a s vs = subst (λ (n : ℕ). ResultIs T (if nat_lt 65536 n then Next array_limit else Needs (New (ArrayCell (read_all T vs)) Itself) []) (array_made vs)) (sym (length_read T vs)) (at (nat_lt 65536 (length vs))) where
+array_made_is {R} eq T a s vs = subst (λ (n : ℕ). ResultIs T (if nat_lt ARRAY_LIMIT n then Next array_limit else Needs (New (ArrayCell (read_all T vs)) Itself) []) (array_made vs)) (sym (length_read T vs)) (at (nat_lt ARRAY_LIMIT (length vs))) where
   at : (b : Bool) → ResultIs T (if b then Next array_limit else Needs (New (ArrayCell (read_all T vs)) Itself) []) (if b then Raises (codes "array_limit") else Does (PlainNewArray vs))
   at true = refl
   at false = refl
@@ -170,7 +171,7 @@ invoked_is eq T a s x ((LocationValue Variable y) ∷ vs) = refl
 invoked_is eq T a s x ((LocationValue Writer y) ∷ vs) = refl
 invoked_is eq T a s x ((LocationValue Condition y) ∷ vs) = refl
 invoked_is eq T a s x ((LocationValue Engine y) ∷ vs) = refl
-invoked_is {R} eq T a s x (LocationValue Object o ∷ vs) = at (nat_lt 999 a) where
+invoked_is {R} eq T a s x (LocationValue Object o ∷ vs) = at (is_call_limit a) where
   at : (b : Bool) → ResultIs T (if b then Next call_limit else Needs (CallMethod o x (read_all T vs)) []) (if b then Raises (codes "call_limit") else Does (PlainInvoke o x vs))
   at true = refl
   at false = refl

@@ -27,6 +27,7 @@ use Rattle.obq_windows.proofs.Around.{Starts, here, stepped, to_here}
 use Rattle.obq_windows.proofs.Calls.{members_none, members_some}
 use Rattle.obq_windows.proofs.Envs.{fun_eq, others}
 use Rattle.obq_windows.proofs.Lists.{behind_here, item_here}
+use Rattle.obq_base.specs.declared.limits.TheConstants.{CLOSURE_LIMIT}
 
 -- ---- what is covered has a value
 
@@ -204,8 +205,8 @@ rest_starts T fs tag p (AnItem i is) = record { tag_is = refl; leads = here T fs
 
 pub letrec_begins : {R : Type 0} → (eq : R → R → Bool) (T : Table R) (a : ℕ) (s : Self R) → IsMadeTable T → (thread count : ℕ) (numbers : List CodeNo) (p : Place R) (bs : RecBindTrees) (place : ℕ) (is : ItemTrees) (fs : List (TreeFrame R)) → IsGroupHint T numbers p bs
     → Moves eq T a s (plug (frames_of T fs) (items_at T p (AnItem (LetRecItem bs place) is))) (begin_letrec T thread count numbers p bs is fs)
-letrec_begins {R} eq T a s w thread count numbers p bs place is fs h = at (nat_lt 1000 (deepest_of (letrec_parts T p bs))) refl where
-  at : (d : Bool) → nat_lt 1000 (deepest_of (letrec_parts T p bs)) ≡ d
+letrec_begins {R} eq T a s w thread count numbers p bs place is fs h = at (nat_lt CLOSURE_LIMIT (deepest_of (letrec_parts T p bs))) refl where
+  at : (d : Bool) → nat_lt CLOSURE_LIMIT (deepest_of (letrec_parts T p bs)) ≡ d
       → Moves eq T a s (plug (frames_of T fs) (items_at T p (AnItem (LetRecItem bs place) is)))
       (if d then tree_moved Stepped fs (tree_raises (codes "closure_limit")) else tree_closed (begin_rest Stepped (with_bound p (member_values thread count numbers 0 (captured_values T p (captured_by_group (outside_at T p) (names_at p) bs)) (member_names bs))) is fs))
   at true e =

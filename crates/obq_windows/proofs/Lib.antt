@@ -17,6 +17,7 @@ pub mod Lists
 pub mod Members
 pub mod Openings
 pub mod Raises
+pub mod Recursion
 pub mod Results
 pub mod Running
 pub mod Slots
