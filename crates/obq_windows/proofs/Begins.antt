@@ -16,7 +16,8 @@ use Rattle.obq_windows.specs.Trees.{Beyond, Callee, Does, ExprTask, Gives, Pendi
 use Rattle.obq_windows.specs.Values.{ClosureValue, ExceptionValue, IntValue, IsMadeTable, LocationValue, OkayValue, PlainValue, Table, TextValue, ThreadValue, TruthValue, closure_of, proc_named, proc_of, read_all, read_value, read_values}
 use Rattle.obq_windows.proofs.Around.{asks, found_in, pushed, silent, to_here}
 use Rattle.obq_windows.proofs.Calls.{callable, entered_right}
-use Rattle.obq_windows.proofs.Results.{ResultIs, built_is, closure_cases}
+use Rattle.obq_windows.proofs.Results.{ResultIs, closure_cases}
+use Rattle.obq_windows.proofs.BuiltIns.{applied_is}
 use Rattle.obq_base.specs.declared.limits.TheConstants.{ARRAY_LIMIT}
 
 -- the same of a term that is spelled in another way
@@ -191,7 +192,7 @@ finish_right {R} eq T a s w fs (ToBuiltin r) p vs = at (length vs == arity_of_bu
 
   at : (b : Bool) → (length vs == arity_of_builtin (builtin_at r)) ≡ b
       → Moves eq T a s (plug (frames_of T fs) (Form (Apply (builtin_at r)) (values_before (read_all T vs) End))) (if b then tree_result (applied (builtin_at r) vs) fs else tree_moved Stepped fs (tree_raises (codes "arity")))
-  at true e = result_right eq T a s fs _ _ (applied (builtin_at r) vs) (found true e) (built_is T (builtin_at r) vs)
+  at true e = result_right eq T a s fs _ _ (applied (builtin_at r) vs) (found true e) (applied_is T (builtin_at r) vs)
   at false e = to_here eq T a s fs _ (tree_raises (codes "arity")) (found false e)
 finish_right eq T a s w fs ToArray p vs =
     result_right eq T a s fs _ _ (array_made vs) (operands eq (activations_at a (frames_of T fs)) (self_at s (frames_of T fs)) MakeArray [] (read_all T vs) End (λ i l. refl)) (array_made_is eq T (activations_at a (frames_of T fs)) (self_at s (frames_of T fs)) vs)

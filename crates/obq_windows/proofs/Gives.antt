@@ -19,7 +19,8 @@ use Rattle.obq_windows.proofs.Around.{asks, found_in, links_frames, pushed, sile
 use Rattle.obq_windows.proofs.Begins.{args_right, callee_form, of_term, result_right, suffix_args}
 use Rattle.obq_windows.proofs.Closing.{rest_starts}
 use Rattle.obq_windows.proofs.Envs.{bound_more, names_more}
-use Rattle.obq_windows.proofs.Results.{closure_cases, operated_is}
+use Rattle.obq_windows.proofs.Results.{closure_cases}
+use Rattle.obq_windows.proofs.Operators.{operated_is}
 use Rattle.obq_windows.proofs.Starting.{binds_at, binds_start, if_starts}
 
 -- the window with this frame is the frame's form around the value, inside of the others

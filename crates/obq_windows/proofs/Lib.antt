@@ -5,6 +5,7 @@ pub mod AlikeItems
 pub mod AlikeMoves
 pub mod Around
 pub mod Begins
+pub mod BuiltIns
 pub mod Calls
 pub mod Closing
 pub mod Depths
@@ -16,6 +17,7 @@ pub mod Keeps
 pub mod Lists
 pub mod Members
 pub mod Openings
+pub mod Operators
 pub mod Raises
 pub mod Recursion
 pub mod Results
