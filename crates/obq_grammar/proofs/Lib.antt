@@ -1,3 +1,5 @@
+pub mod Viewed
+pub mod Leaves
 pub mod Theory
 pub mod Sets
 pub mod Firsts
