@@ -8,14 +8,13 @@ use Rattle.obq_base.specs.declared.faults.SourceFault.TheVariants.{Lexical, Synt
 use Rattle.obq_base.specs.declared.tokens.Token.{Token}
 use Rattle.obq_base.specs.declared.trees.Block.{Block}
 use Rattle.obq_base.specs.View.{block_tree}
-use Rattle.obq_front.specs.Contents.{AllWithin}
 use Rattle.obq_grammar.proofs.Named.{one_first}
 use Rattle.obq_grammar.proofs.Prefixes.{same_fault, tree_and_fault}
 use Rattle.obq_io.specs.Known.{IsIt, WhereTold}
 use Rattle.obq_model.proofs.Uniqueness.{ascending, no_fault_of_a_reading, one_first_fault, one_reading}
 use Rattle.obq_model.specs.Grammar.{Derives}
 use Rattle.obq_model.specs.Occurrences.{IsFirstUnbound}
-use Rattle.obq_model.specs.Sources.{AreAccepted, IsAccepted, IsFault, IsFirstRefused, here, later}
+use Rattle.obq_model.specs.Sources.{AreAccepted, IsFault, IsFirstRefused, here, later}
 use Rattle.obq_model.specs.Syntax as syntax
 use Rattle.obq_model.specs.Tokens.{IsAscending}
 use Rattle.obq_run.specs.declared.ends.Cause.{Cause}
@@ -139,21 +138,21 @@ not_sooner holds limit (p ∷ ps) (suc k) (suc s) long lt at = not_sooner holds 
 fault_not : (holds : List ℕ → Option (List ℕ)) (limit : ℕ) (paths : List (List ℕ)) (Rises : List ℕ → Type 0) (k file : ℕ) → IsFaultAt holds limit Rises paths file → IsFirstTooLong holds limit paths k
     → NoneRose Rises (take (suc k) paths) → ⊥
 fault_not holds limit paths Rises k file fault long none = elim (cases_order file k) as (λ _. ⊥) [
-    | inl is ↦ not_risen Rises paths k file none (omega (arith, is)) fault.1
-    | inr apart ↦ elim apart as (λ _. ⊥) [
-        | inl lt ↦ not_risen Rises paths k file none (omega (arith, lt)) fault.1
-        | inr gt ↦ not_past holds limit paths k file long gt fault.0
-      ]
+  | inl is ↦ not_risen Rises paths k file none (omega (arith, is)) fault.1
+  | inr apart ↦ elim apart as (λ _. ⊥) [
+    | inl lt ↦ not_risen Rises paths k file none (omega (arith, lt)) fault.1
+    | inr gt ↦ not_past holds limit paths k file long gt fault.0
   ]
+]
 
 same_long : (holds : List ℕ → Option (List ℕ)) (limit : ℕ) (paths : List (List ℕ)) (k s : ℕ) → IsTooLongAt holds limit paths s → IsFirstTooLong holds limit paths k → s ≡ k
 same_long holds limit paths k s at long = elim (cases_order s k) as (λ _. s ≡ k) [
-    | inl is ↦ is
-    | inr apart ↦ elim apart as (λ _. s ≡ k) [
-        | inl lt ↦ absurd (not_sooner holds limit paths k s long lt at.1)
-        | inr gt ↦ absurd (not_past holds limit paths k s long gt at.0)
-      ]
+  | inl is ↦ is
+  | inr apart ↦ elim apart as (λ _. s ≡ k) [
+    | inl lt ↦ absurd (not_sooner holds limit paths k s long lt at.1)
+    | inr gt ↦ absurd (not_past holds limit paths k s long gt at.0)
   ]
+]
 
 pub too_long_refused : (holds : List ℕ → Option (List ℕ)) (limit : ℕ) (paths : List (List ℕ)) (Rises : List ℕ → Type 0) (cause : Cause) → IsRunRefusal cause
     → IfReadFault cause (IsFaultAt holds limit Rises paths) → IfTooLong cause (IsTooLongAt holds limit paths)
