@@ -1,5 +1,5 @@
 -- Room for a tree: under these binders, with so many codes before it, no number in its code has more than 32 bits.
-use Rattle.std.proofs.Common.{List, None, Option, Some, [], ap, ap₂, arith, length, map, refl, ℕ, ◌+◌, ◌<◌, ◌≡◌, ◌≤◌, ◌∷◌}
+use Rattle.std.proofs.Common.{List, None, Option, Some, [], ap, ap₂, arith, length, refl, ℕ, ◌+◌, ◌<◌, ◌≡◌, ◌≤◌, ◌∷◌}
 use Rattle.std.proofs.Math.Nat.{min-eq_left}
 use Rattle.obq_base.specs.declared.code.Slot.{Slot}
 use Rattle.obq_base.specs.declared.code.Slot.TheVariants as s
