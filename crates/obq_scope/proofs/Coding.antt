@@ -1,12 +1,12 @@
 -- Where the names that procedures capture lie ahead, and no number has more than 32 bits, a tree adds what its draft does.
-use Rattle.std.proofs.Common.{◌≡◌, ◌∙◌, ◌+◌, ◌<◌, ◌≤◌, ℕ, List, [], ◌∷◌, ◌++◌, Option, None, Some, arith, refl, ap, sym, subst, suc, length, append_assoc}
+use Rattle.std.proofs.Common.{◌≡◌, ◌∙◌, ◌+◌, ◌<◌, ◌≤◌, ℕ, List, [], ◌∷◌, ◌++◌, Option, None, Some, arith, refl, ap, sym, subst, length, append_assoc}
 use Rattle.std.proofs.lemmas.List.{append-nil, length-append, length-map}
 use Rattle.obq_base.specs.declared.code.CodeNo.{CodeNo}
 use Rattle.obq_base.specs.declared.code.Node.{Node}
 use Rattle.obq_base.specs.declared.code.Node.TheVariants as n
 use Rattle.obq_base.specs.declared.code.Slot.{Slot}
 use Rattle.obq_base.specs.Tree.{BlockTree, BlockOf, MaybeBlock, NoBlock, ABlock, ItemTrees, NoItems, AnItem, ItemTree, LetItem, VarItem, LetRecItem, AssignItem, FieldItem, IndexItem, PlainItem, BindTrees, NoBinds, ABind, RecBindTrees, NoRecBinds, ARecBind, ProcedureTree, AProc, FieldTree, ValueOf, MethodOf, AliasOf, ExprTree, IntTree, TextTree, TruthTree, OkTree, NameTree, ProcTree, ArrayTree, ObjectTree, IfTree, LoopTree, ExitTree, ForTree, ForeachTree, TryTree, FinallyTree, RaiseTree, WatchTree, RedirectTree, CloneTree, ChainTree, SuffixedTree, ExprTrees, NoExprs, AnExpr, LinkTrees, NoLinks, ALink, SuffixTree, ApplySuffix, SelectSuffix, InvokeSuffix, IndexSuffix, SuffixTrees, NoSuffixes, ASuffix, ArmTrees, NoArms, AnArm, FieldTrees, NoFields, AField}
-use Rattle.obq_model.specs.Draft.{Draft, Plain, Both, behind_first, call_node, called_row, captured_by, captured_by_group, count_arms, count_binds, count_exprs, count_items, count_params, count_suffixes, draft_arms, draft_binds, draft_block, draft_body, draft_expr, draft_exprs, draft_field, draft_fields, draft_item, draft_items, draft_links, draft_maybe, draft_members, draft_suffix, draft_suffixes, field_names, has_block, operators_of}
+use Rattle.obq_model.specs.Draft.{Draft, Plain, Both, behind_first, call_node, called_row, captured_by, captured_by_group, count_binds, count_exprs, count_items, count_params, count_suffixes, draft_arms, draft_binds, draft_block, draft_body, draft_expr, draft_exprs, draft_field, draft_fields, draft_item, draft_items, draft_links, draft_maybe, draft_members, draft_suffix, draft_suffixes, field_names, has_block, operators_of}
 use Rattle.obq_model.specs.Occurrences.{bind_names, free_members, free_procedure, item_names, member_names}
 use Rattle.obq_model.specs.Scopes.{Outside, inside, outermost, slot_of, slots_of}
 use Rattle.obq_names.specs.Captures.{captured_names, captures_arms, captures_binds, captures_block, captures_body, captures_expr, captures_exprs, captures_field, captures_fields, captures_item, captures_items, captures_links, captures_maybe, captures_members, captures_suffix, captures_suffixes, group_names}
@@ -19,80 +19,8 @@ use Rattle.obq_scope.specs.Narrowed.{found_slot, found_slots, narrowed, numbered
 use Rattle.obq_scope.specs.Sizes.{size_arms, size_binds, size_block, size_body, size_expr, size_exprs, size_field, size_fields, size_item, size_items, size_links, size_maybe, size_members, size_suffix, size_suffixes}
 use Rattle.obq_scope.proofs.Covered.{Covers, captures_are, covers_group, covers_inside, covers_more, covers_nothing}
 use Rattle.obq_scope.proofs.Rooms.{Room, narrow_at, slot_at, slots_at}
-use Rattle.obq_scope.proofs.Sized.{arms_fit, behind_fit, binds_fit, captured_fits, exprs_fit, items_fit, members_fit, occurs_members, occurs_procedure, params_fit, suffixes_fit}
-
-abbrev at : Output → List Names → Emitter
-at out ahead = record { output = out; ahead = ahead }
-
--- from the one output to the other one, past these lists; the codes that are added, and k names that are bound behind, are at most so many
-record Codes (f : Emitter → Emitter) (lists : List Names) (k size : ℕ) (before after : Output) : Type 0 where
-  codes : (more : List Names) → f (at before (lists ++ more)) ≡ at after more
-  many : length after.codes + k ≤ length before.codes + size
-
--- so it is where there is room for a tree of that size
-abbrev Fits : Outside → Names → (Emitter → Emitter) → List Names → (k size : ℕ) → (before after : Output) → Type 0
-Fits o locals f lists k size before after = Room o locals before size → Codes f lists k size before after
-
-nothing : {o : Outside} {locals : Names} (out : Output) → Fits o locals (λ s. s) [] 0 0 out out
-nothing out r = record { codes = λ more. refl; many = omega arith }
-
--- a node, which is the draft's where there is room
-pushes : {o : Outside} {locals : Names} {f : Emitter → Emitter} {lists : List Names} {k size : ℕ} {after : Output} (a b : Node) (out : Output) → (Room o locals out size → a ≡ b)
-    → Fits o locals f lists k size (with_node b out) after → Fits o locals (λ s. f (onto a s)) lists k size out after
-pushes {f = f} {lists = lists} a b out e c r =
-    let m = c (record { room = r.room; members = r.members; captured = r.captured }) in
-    record { codes = λ more. ap (λ z. f (onto z (at out (lists ++ more)))) (e r) ∙ m.codes more; many = m.many }
-
-puts : {o : Outside} {locals : Names} {f : Emitter → Emitter} {lists : List Names} {k size : ℕ} {after : Output} (a : Node) (out : Output)
-    → Fits o locals f lists k size (with_node a out) after → Fits o locals (λ s. f (onto a s)) lists k size out after
-puts a out c = pushes a a out (λ r. refl) c
-
--- a size may be larger
-wider : {o : Outside} {locals : Names} {f : Emitter → Emitter} {lists : List Names} {k j size : ℕ} {before after : Output} (more : ℕ) → j ≤ k + more
-    → Fits o locals f lists k size before after → Fits o locals f lists j (more + size) before after
-wider more le c r =
-    let room = r.room in
-    let m = c (record { room = omega (arith, room); members = r.members; captured = r.captured }) in
-    let many = m.many in
-    record { codes = m.codes; many = omega (arith, many, le) }
-
-one : {o : Outside} {locals : Names} {f : Emitter → Emitter} {lists : List Names} {k size : ℕ} {before after : Output}
-    → Fits o locals f lists k size before after → Fits o locals f lists k (1 + size) before after
-one {k = k} c = wider 1 (less k) c where
-  less : (k : ℕ) → k ≤ k + 1
-  less k = omega arith
-
--- the second under names that the first binds
-joins : {o : Outside} {locals : Names} {f g : Emitter → Emitter} {lists further : List Names} {v w j : ℕ} {a b c : Output} (names : Names)
-    → Fits o locals f lists (length names) v a b → Fits o (locals ++ names) g further j w b c → Fits o locals (λ s. g (f s)) (lists ++ further) j (v + w) a c
-joins {locals = locals} {f = f} {g = g} {lists = lists} {further = further} {a = a} {b = b} names m p r =
-    let room = r.room in
-    let first = m (record { room = omega (arith, room); members = r.members; captured = r.captured }) in
-    let fewer = first.many in
-    let second = p (record { room = omega (arith, room, fewer, length-append locals names); members = r.members; captured = r.captured }) in
-    let many = second.many in
-    record {
-      codes = λ more. ap (λ (z : List Names). g (f (at a z))) (append_assoc lists further more) ∙ ap g (first.codes (further ++ more)) ∙ second.codes more;
-      many = omega (arith, fewer, many);
-    }
-
-both : {o : Outside} {locals : Names} {f g : Emitter → Emitter} {lists further : List Names} {v w j : ℕ} {a b c : Output}
-    → Fits o locals f lists 0 v a b → Fits o locals g further j w b c → Fits o locals (λ s. g (f s)) (lists ++ further) j (v + w) a c
-both {o} {locals} {g = g} {further = further} {w = w} {j = j} {b = b} {c = c} m p = joins [] m (λ r. p (subst (λ (l : Names). Room o l b w) (append-nil locals) r))
-
--- under one more name
-under : {o : Outside} {locals : Names} {f : Emitter → Emitter} {lists : List Names} {k size : ℕ} {before after : Output} (x : List ℕ)
-    → Fits o (locals ++ x ∷ []) f lists k size before after → Fits o locals f lists (suc k) (1 + size) before after
-under {locals = locals} x c r =
-    let room = r.room in
-    let m = c (record { room = omega (arith, room, length-append locals (x ∷ [])); members = r.members; captured = r.captured }) in
-    let many = m.many in
-    record { codes = m.codes; many = omega (arith, many) }
-
--- in a block the name is bound no longer behind it
-inside_block : {o : Outside} {locals : Names} {f : Emitter → Emitter} {lists : List Names} {k size : ℕ} {before after : Output}
-    → Fits o locals f lists k size before after → Fits o locals f lists 0 size before after
-inside_block c r = let m = c r in let many = m.many in record { codes = m.codes; many = omega (arith, many) }
+use Rattle.obq_scope.proofs.Stepping.{Codes, Fits, armed, at, both, counted, fits, inside_block, joins, names_alone, nothing, one, pushes, puts, tried, under, wider}
+use Rattle.obq_scope.proofs.Sized.{behind_fit, binds_fit, captured_fits, exprs_fit, items_fit, members_fit, occurs_members, occurs_procedure, params_fit, suffixes_fit}
 
 -- the names that a procedure captures are at most so many
 captures_fit : (o : Outside) (locals : Names) (p : ProcedureTree) → length (captured_by o locals p) ≤ size_body p
@@ -246,10 +174,6 @@ draft_by o locals e ss row =
       | Some k ↦ Plain (n.Suffixes (count_suffixes (behind_first ss))) (draft_suffixes o locals (Some k) ss)
     ]
 
--- a count that is at most a size fits
-fits : {o : Outside} {locals : Names} {out : Output} (count size : ℕ) (more : ℕ) → count ≤ size → Room o locals out (more + size) → narrowed count ≡ count
-fits count size more le r = let room = r.room in narrow_at count (omega (arith, room, le))
-
 -- an expression with suffixes, whose first one may call a built-in
 suffixed : (o : Outside) (locals bound : Names) (e : ExprTree) (ss : SuffixTrees) (out : Output) (row : Option ℕ) → called_row o locals e ss ≡ row
     → ((a : Output) → Fits o locals (coded_expr o locals e) (captures_expr bound e) 0 (size_expr e) a (emitted o.source (draft_expr o locals e) a))
@@ -261,25 +185,6 @@ suffixed o locals bound e ss out (Some row) h m p =
     subst (λ (l : List Names). Fits o locals (λ s. coded_by o locals e ss s (Some row)) (l ++ captures_suffixes bound ss) 0 (size_expr e + size_suffixes ss) out (emitted o.source (draft_by o locals e ss (Some row)) out)) (sym (in_called o locals bound e ss row h))
     (pushes (n.Suffixes (narrowed (count_suffixes (behind_first ss)))) (n.Suffixes (count_suffixes (behind_first ss))) out
     (λ r. ap n.Suffixes (fits (count_suffixes (behind_first ss)) (size_suffixes ss) (size_expr e) (behind_fit ss) r)) (wider (size_expr e) (omega arith) (p (Some row) _)))
-
--- a node with a count
-counted : {o : Outside} {locals : Names} {f : Emitter → Emitter} {lists : List Names} {k : ℕ} {after : Output} (make : ℕ → Node) (count size : ℕ) (out : Output) → count ≤ size
-    → Fits o locals f lists k size (with_node (make count) out) after → Fits o locals (λ s. f (onto (make (narrowed count)) s)) lists k size out after
-counted make count size out le c = pushes (make (narrowed count)) (make count) out (λ r. ap make (let room = r.room in narrow_at count (omega (arith, room, le)))) c
-
--- with a count of arms, before them and a block, and behind a block too
-armed : {o : Outside} {locals : Names} {f : Emitter → Emitter} {lists : List Names} {after : Output} (make : ℕ → Node) (arms : ArmTrees) (last : ℕ) (out : Output)
-    → Fits o locals f lists 0 (size_arms arms + last) (with_node (make (count_arms arms)) out) after → Fits o locals (λ s. f (onto (make (narrowed (count_arms arms))) s)) lists 0 (size_arms arms + last) out after
-armed make arms last out c = pushes (make (narrowed (count_arms arms))) (make (count_arms arms)) out (λ r. ap make (let room = r.room in let le = arms_fit arms in narrow_at (count_arms arms) (omega (arith, room, le)))) c
-
-tried : {o : Outside} {locals : Names} {f : Emitter → Emitter} {lists : List Names} {after : Output} (make : ℕ → Node) (arms : ArmTrees) (first last : ℕ) (out : Output)
-    → Fits o locals f lists 0 (first + (size_arms arms + last)) (with_node (make (count_arms arms)) out) after
-    → Fits o locals (λ s. f (onto (make (narrowed (count_arms arms))) s)) lists 0 (first + (size_arms arms + last)) out after
-tried make arms first last out c = pushes (make (narrowed (count_arms arms))) (make (count_arms arms)) out (λ r. ap make (let room = r.room in let le = arms_fit arms in narrow_at (count_arms arms) (omega (arith, room, le)))) c
-
--- parameters alone
-names_alone : {o : Outside} (names : Names) (out : Output) → Fits o [] (λ s. s) [] (length names) (length names) out out
-names_alone names out r = record { codes = λ more. refl; many = omega arith }
 
 mutual
   codes_block : (o : Outside) (locals bound : Names) (tree : BlockTree) (out : Output) → Covers o locals bound

@@ -7,3 +7,4 @@ pub mod Resolving
 pub mod Rooms
 pub mod Sized
 pub mod Standing
+pub mod Stepping
