@@ -190,14 +190,6 @@ IsLater v old new = in_line v new ≡ true → (in_line v old ≡ true) × (coun
 later_same : (v : ℕ) (line : List ℕ) → IsLater v line line
 later_same v line h = (h, (λ e. e))
 
-none_in : (v : ℕ) (line : List ℕ) → in_line v line ≡ false → count_in v line ≡ 0
-none_in v [] h = refl
-none_in v (u ∷ us) h = by (v == u) h (none_in v us)
-  where
-    by : (b : Bool) → (b || in_line v us) ≡ false → (in_line v us ≡ false → count_in v us ≡ 0) → (if b then suc (count_in v us) else count_in v us) ≡ 0
-    by true r next = absurd (true_false r)
-    by false r next = next r
-
 some_in : (v : ℕ) (line : List ℕ) → in_line v line ≡ true → count_in v line ≡ 0 → ⊥
 some_in v [] h e = absurd (true_false (sym h))
 some_in v (u ∷ us) h e = by (v == u) h e (some_in v us)

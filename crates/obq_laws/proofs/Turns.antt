@@ -212,7 +212,7 @@ kept_by_replay turns P h trees p es k r = kept_from turns P h (opening trees) k 
 
 -- ---- from a turn to its entry
 
-one_left : (turns used : ℕ) → used < turns → nat_lt turns (used + 0 + 1) ≡ false
+pub one_left : (turns used : ℕ) → used < turns → nat_lt turns (used + 0 + 1) ≡ false
 one_left turns used l = grind (arith, nat_tests)
 
 one_left_step : (turns used : ℕ) → used < turns → nat_lt turns (used + 1 + 0) ≡ false

@@ -14,6 +14,7 @@ use Rattle.obq_model.specs.PutTexts.{IsPutTexts, StopsAt}
 use Rattle.obq_model.specs.Replay.{IsOver, TakeTurns, output, replay, report, status}
 use Rattle.obq_model.specs.Sources.{AreAccepted, IsFirstRefused}
 use Rattle.obq_model.specs.Tokens.{IsReading}
+use Rattle.obq_journal.specs.Recording.{shown}
 use Rattle.obq_run.specs.declared.ends.Cause.{Cause}
 use Rattle.obq_run.specs.declared.history.Ran.{Ran}
 use Rattle.obq_run.specs.Ends.{IsCheckedOrNoMemory, IsNotYetOrNoMemory, IsRanOrNoMemory, IsRefusedOrNoMemory, IsTooLongOrNoMemory}
@@ -62,7 +63,7 @@ pub record RunsOf (holds : List ℕ → Option (List ℕ)) (limit : ℕ) (paths 
   pub source : List ℕ
   pub held : AreHeld holds limit paths (source ∷ [])
   pub form : OnlyWrites source
-  pub end : IsEndOf (source ∷ []) turns ran.journal (ran.bytes.items ∷ []) one_ended
+  pub end : IsEndOf (source ∷ []) turns (shown ran.journal) (ran.bytes.items ∷ []) one_ended
 
 -- Of sources within the limit, which are what the paths hold where they tell that, this one is the first that has a fault, and this is its first.
 pub record IsRefusalOf (holds : List ℕ → Option (List ℕ)) (limit : ℕ) (paths : List (List ℕ)) (k : ℕ) (fault : SourceFault) : Type 0 where

@@ -12,11 +12,11 @@ ghost use Rattle.obq_words.specs.Words.{AreInForm, names_of, paths_of};
 
 use crate::accepted::accepted_sources;
 use crate::ends::{Cause, End, status_for};
-use crate::journals::Journal;
 use crate::run::refuse;
 use crate::texts::{write_cause, write_checked};
 use obq_base::limits::SOURCE_LIMIT;
 use obq_io::{Files, Sink};
+use obq_journal::Journal;
 use obq_words::SiteWord;
 use std::alloc::Global;
 

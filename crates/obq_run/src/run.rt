@@ -8,6 +8,7 @@ ghost use Rattle.obq_io.specs.Causes.{Rose};
 ghost use Rattle.obq_io.specs.Known.{GetsPrefix};
 ghost use Rattle.obq_model.specs.Output.{run_text};
 ghost use Rattle.obq_model.specs.Sources.{AreAccepted};
+ghost use Rattle.obq_journal.specs.Recording.{shown};
 ghost use Rattle.obq_run.specs.Ends.{GetsLine, IfNotYet, IfReadFault, IfRefused, IfTooLong, IfUnrun, IsRefusal, IsRunEnd, IsRunFinish, IsRunRefusal, OnRan, OnWriteFault, line_of, status_of, unrun_cause};
 ghost use Rattle.obq_run.specs.Held.{IsFaultAt, IsTooLongAt, PathRose};
 ghost use Rattle.obq_run.specs.Runs.{IsEndOf, IsNotYetOf, IsRefusalOf, IsRunOf, NotYetCompletes, OnlyWrites, RefusalCompletes, RunCompletes, RunsOf, StopsRun, TooLongCompletes, one_ended};
@@ -16,12 +17,12 @@ ghost use Rattle.obq_words.specs.Words.{AreInForm, names_of, paths_of};
 use crate::accepted::accepted_sources;
 use crate::ends::{Cause, End, status_for};
 use crate::history::{Ran, run_texts};
-use crate::journals::Journal;
 use crate::put_texts::{Unreadable, read_texts};
 use crate::texts::{write_cause, write_run};
 use obq_base::Report;
 use obq_base::limits::{DEFAULT_TURNS, SOURCE_LIMIT};
 use obq_io::{Files, Sink};
+use obq_journal::Journal;
 use obq_lex::{LexRefused, lex};
 use obq_words::SiteWord;
 use std::alloc::Global;
@@ -37,7 +38,7 @@ pub enum Unrun {
 fn run_source(alloc: Global, source: &[u8]) -> Result<Ran, Unrun>
     requires within { length source.now ≤ SOURCE_LIMIT }
     requires accepted { (trees : List Block) × AreAccepted (source.now ∷ []) trees }
-    ensures ran { IfOk result (λ r. IsEndOf (source.now ∷ []) DEFAULT_TURNS r.journal (r.bytes.items ∷ []) one_ended) }
+    ensures ran { IfOk result (λ r. IsEndOf (source.now ∷ []) DEFAULT_TURNS (shown r.journal) (r.bytes.items ∷ []) one_ended) }
     ensures form { IfOk result (λ r. OnlyWrites source.now) }
     ensures unrun { IfErr result (λ why. IfUnrun why (StopsRun (source.now ∷ []) 0)) }
 {
@@ -113,7 +114,7 @@ pub fn refuse<E: Sink>(alloc: Global, err: &mut E, sites: &[SiteWord], cause: Ca
 /// The end of a call whose source ran: its output is written.
 fn finish<O: Sink, E: Sink>(out: &mut O, err: &mut E, sites: &[SiteWord], ran: Ran) -> End
     requires { length sites.now ≡ 1 }
-    ensures journal { result.journal ≡ ran.journal }
+    ensures journal { shown result.journal ≡ shown ran.journal }
     ensures ran { OnRan result.cause (Appends (O.written out.old) (O.written out.new) (run_text (zip (names_of sites.now) (ran.bytes.items ∷ [])) one_ended)) }
     ensures part { OnWriteFault result.cause (GetsPrefix (O.written out.old) (O.written out.new) (run_text (zip (names_of sites.now) (ran.bytes.items ∷ [])) one_ended)) }
     ensures write_fault { OnWriteFault result.cause (Rose (O.faults out.old) (O.faults out.new)) }
@@ -163,9 +164,9 @@ pub fn run_sites<F: Files, O: Sink, E: Sink>(
     ensures write_fault { OnWriteFault result.cause (Rose (O.faults out.old) (O.faults out.new)) }
 
     // The journal is a history of the sources, and what is written is its output.
-    ensures ran { OnRan result.cause ((text : List ℕ) × IsRunOf (F.holds files.old) SOURCE_LIMIT (names_of sites.now) (paths_of sites.now) DEFAULT_TURNS result.journal text result.status
+    ensures ran { OnRan result.cause ((text : List ℕ) × IsRunOf (F.holds files.old) SOURCE_LIMIT (names_of sites.now) (paths_of sites.now) DEFAULT_TURNS (shown result.journal) text result.status
         × Appends (O.written out.old) (O.written out.new) text) }
-    ensures part { OnWriteFault result.cause ((text : List ℕ) × (ended : ℕ) × IsRunOf (F.holds files.old) SOURCE_LIMIT (names_of sites.now) (paths_of sites.now) DEFAULT_TURNS result.journal text ended
+    ensures part { OnWriteFault result.cause ((text : List ℕ) × (ended : ℕ) × IsRunOf (F.holds files.old) SOURCE_LIMIT (names_of sites.now) (paths_of sites.now) DEFAULT_TURNS (shown result.journal) text ended
         × GetsPrefix (O.written out.old) (O.written out.new) text) }
     ensures status { result.status ≡ status_of result.cause }
     ensures completes { RunCompletes (F.holds files.old) SOURCE_LIMIT (paths_of sites.now) (PathRose (F.faults files.old) (F.faults files.new)) (Rose (O.faults out.old) (O.faults out.new)) result.cause }

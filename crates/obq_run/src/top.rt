@@ -6,6 +6,7 @@ ghost use Rattle.obq_io.specs.Causes.{Rose};
 ghost use Rattle.obq_io.specs.Known.{GetsPrefix};
 ghost use Rattle.obq_model.specs.CommandLine.{TooManyAt, UsageAt, bad_word, is_checking};
 ghost use Rattle.obq_model.specs.Output.{check_text};
+ghost use Rattle.obq_journal.specs.Recording.{shown};
 ghost use Rattle.obq_run.specs.Ends.{GetsLine, IfNotYet, IfReadFault, IfRefused, IfTooLong, IsRefusal, MatchWords, OnChecked, OnRan, OnWriteFault, line_of, status_of};
 ghost use Rattle.obq_run.specs.Held.{IsFaultAt, IsTooLongAt, PathRose};
 ghost use Rattle.obq_run.specs.Runs.{CheckCompletes, IsCheckOf, IsNotYetOf, IsRefusalOf, IsRunOf, NotYetCompletes, RefusalCompletes, RunCompletes, TooLongCompletes};
@@ -44,10 +45,10 @@ pub fn obliq<R: Threads + Wait + Sync, F: Files, O: Sink, E: Sink, G: Gate>(
     // The journal of a run is a history of its sources, and what is written is the output of that
     // history.
     ensures ran { OnRan result.cause ((text : List ℕ)
-        × IsRunOf (F.holds files.old) SOURCE_LIMIT (given_names (bytes_of words.now)) (given_paths (bytes_of words.now)) DEFAULT_TURNS result.journal text result.status
+        × IsRunOf (F.holds files.old) SOURCE_LIMIT (given_names (bytes_of words.now)) (given_paths (bytes_of words.now)) DEFAULT_TURNS (shown result.journal) text result.status
         × Appends (O.written out.old) (O.written out.new) text) }
     ensures part { is_checking (bytes_of words.now) ≡ false → OnWriteFault result.cause ((text : List ℕ)
-        × (ended : ℕ) × IsRunOf (F.holds files.old) SOURCE_LIMIT (given_names (bytes_of words.now)) (given_paths (bytes_of words.now)) DEFAULT_TURNS result.journal text ended
+        × (ended : ℕ) × IsRunOf (F.holds files.old) SOURCE_LIMIT (given_names (bytes_of words.now)) (given_paths (bytes_of words.now)) DEFAULT_TURNS (shown result.journal) text ended
         × GetsPrefix (O.written out.old) (O.written out.new) text) }
 
     // What is checked is accepted, and that is what is written.

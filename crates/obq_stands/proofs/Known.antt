@@ -8,7 +8,7 @@ use Rattle.obq_model.specs.Maps.{map_term, map_cell}
 use Rattle.obq_laws.specs.Known.{Places, Threads, HasKind, IsPlace, IsThread, IsKnown, IsKnownCell, IsKnownOperation, IsKnownExecution, AreKnownCells, AreKnownThreads}
 use Rattle.obq_laws.specs.Turns.{state_of}
 use Rattle.obq_laws.proofs.KnownReplay.{references_law, next_is_known}
-use Rattle.obq_stands.specs.World.{Ref, Born, Memory, World}
+use Rattle.obq_stands.specs.World.{Ref, Born, Memory}
 use Rattle.obq_stands.specs.Stands.{Agrees, MemoryStands, around}
 use Rattle.obq_stands.specs.Facts.{IsCellOf, NextKnown, CellKnown, WindowKnown}
 use Rattle.obq_model.proofs.Slices.{get_below}
@@ -42,10 +42,6 @@ read_back m st h kind r is = by (m.heap r) refl
     by (Some x) e =
         let cell : slice_get st.cells (f r) ≡ Some (map_cell f x.cell) = ap (slice_get st.cells) (a.cells r x e) ∙ h.cells r x e f a in
         (x, e, sym (map_location_kind f x.cell) ∙ subst (HasKind kind) cell is)
-
--- threads of the configuration are threads of the World
-abbrev InWorld : World → Threads
-InWorld w u = u < w.threads
 
 pub next_known : NextKnown
 next_known trees turns w t op i next =

@@ -5,6 +5,7 @@ use Rattle.std.proofs.lemmas.List.{length-map}
 use Rattle.std.specs.String.{string_bytes}
 use Rattle.obq_base.specs.declared.limits.TheConstants.{DEFAULT_TURNS, SOURCE_LIMIT}
 use Rattle.obq_io.specs.Causes.{Rose}
+use Rattle.obq_journal.specs.Recording.{shown}
 use Rattle.obq_run.specs.Runs.{IsEndOf, IsRunOf, NotYetCompletes, RefusalCompletes, RunCompletes, RunsOf, TooLongCompletes, one_ended}
 use Rattle.obq_words.specs.Words.{names_of, paths_of}
 use Rattle.obq_run.proofs.Unruns.{on_write_fault}
@@ -60,8 +61,8 @@ returns-in-Ok-clause-part g c =
     let runs : RunsOf holds SOURCE_LIMIT paths DEFAULT_TURNS c.in-Ok.ran = c.in-Ok.ensures.ran in
     let outputs : List (List ℕ) = c.in-Ok.ran.bytes.items ∷ [] in
     let text : List ℕ = run_text (zip (names_of sites) outputs) one_ended in
-    let end : IsEndOf (runs.source ∷ []) DEFAULT_TURNS c.finish.result.journal outputs one_ended = subst (λ journal. IsEndOf (runs.source ∷ []) DEFAULT_TURNS journal outputs one_ended) (sym c.finish.ensures.journal) runs.end in
-    let run : IsRunOf holds SOURCE_LIMIT (names_of sites) paths DEFAULT_TURNS c.finish.result.journal text 0 =
+    let end : IsEndOf (runs.source ∷ []) DEFAULT_TURNS (shown c.finish.result.journal) outputs one_ended = subst (λ journal. IsEndOf (runs.source ∷ []) DEFAULT_TURNS journal outputs one_ended) (sym c.finish.ensures.journal) runs.end in
+    let run : IsRunOf holds SOURCE_LIMIT (names_of sites) paths DEFAULT_TURNS (shown c.finish.result.journal) text 0 =
     record { sources = runs.source ∷ []; held = runs.held; outputs = outputs; threads = one_ended; end = end; output_text = refl; report_status = refl } in
     on_write_fault c.finish.result.cause _ _ (λ prefix. (text, 0, run, prefix)) c.finish.ensures.part
 

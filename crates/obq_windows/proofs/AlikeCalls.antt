@@ -1,0 +1,134 @@
+-- Calls: nodes and trees do the same.
+use Rattle.std.specs.Prelude.{Bool, List, None, Option, Some, [], codes, false, if◌then◌else◌, length, refl, slice_get, suc, take, true, zero, ℕ, ◌==◌, ◌∷◌, ◌≡◌, ◌≤◌}
+use Rattle.std.proofs.Common.{inl, subst, ap, sym, ◌∙◌, arith}
+use Rattle.obq_base.specs.Tree.{AnExpr, ExprTrees, NoExprs}
+use Rattle.obq_base.specs.declared.code.Code.{Code}
+use Rattle.obq_base.specs.declared.code.CodeNo.{CodeNo}
+use Rattle.obq_model.specs.Builtins.{arity_of_builtin}
+use Rattle.obq_model.specs.CodeLaws.{IsCodeAt, nodes_of}
+use Rattle.obq_model.specs.Draft.{count_exprs, draft_block, draft_exprs}
+use Rattle.obq_model.specs.Opened.{builtin_at}
+use Rattle.obq_model.specs.Procedures.{Proc}
+use Rattle.obq_model.specs.Resolved.{IsCode}
+use Rattle.obq_model.specs.Terms.{Array, Bytes, Condition, Engine, Object, Variable, Writer}
+use Rattle.obq_model.proofs.Drafted.{drafted_expr}
+use Rattle.obq_windows.specs.Agrees.{Agrees, FramesAre, IsBound, Same, StandsAt, place_at}
+use Rattle.obq_windows.specs.Trees.{Asks, Beyond, BlockTask, Bound, Callee, Does, ExprTask, Gives, PendingArguments, PendingCalled, PlainResult, Raises, Silent, Stepped, ToArray, ToBuiltin, ToCall, ToIndex, ToInvoke, TreeFrame, TreeRun, TreeValue, applied, array_made, begin_args, bound_names, bound_values, call_code, call_plain, entered, finish_args, indexed, invoked, outside_at, place_of, proc_outside, push, tree_moved, tree_raises, tree_result, zipped}
+use Rattle.obq_windows.specs.Values.{ClosureValue, ExceptionValue, IntValue, LocationValue, OkayValue, PlainValue, PlainValues, Table, TextValue, ThreadValue, TruthValue}
+use Rattle.obq_windows.specs.Windows.{Activation, NodeArguments, NodeCalled, NodeFrame, NodeRun, NodeValue, Store, activation_of, args_node, call_node_code, call_node_plain, enter_code, finish_node, node_moved, node_raises, node_result}
+use Rattle.obq_windows.proofs.Calls.{same_length}
+use Rattle.obq_windows.proofs.Envs.{zipped_names}
+use Rattle.obq_windows.proofs.Frames.{frames_up, length_values}
+use Rattle.obq_windows.proofs.Slots.{alike, first_of, not_above, second_of}
+use Rattle.obq_model.specs.Step.{is_call_limit}
+
+zipped_values : {R : Type 0} → (xs : List Bytes) (vs : List (PlainValue R)) → length xs ≡ length vs → take (length vs) vs ≡ bound_values (zipped xs vs)
+zipped_values [] [] e = refl
+zipped_values [] (v ∷ vs) e = absurd (none (length vs) e) where
+  none : (k : ℕ) → 0 ≡ suc k → ⊥
+  none k e = omega (arith, e)
+zipped_values (x ∷ xs) [] e = absurd (none (length xs) e) where
+  none : (k : ℕ) → suc k ≡ 0 → ⊥
+  none k e = omega (arith, e)
+zipped_values (x ∷ xs) (v ∷ vs) e = ap (λ l. v ∷ l) (zipped_values xs vs (omega (arith, e)))
+
+length_zipped : {R : Type 0} → (xs : List Bytes) (vs : List (PlainValue R)) → length xs ≡ length vs → length vs ≡ length (zipped xs vs)
+length_zipped [] [] e = refl
+length_zipped [] (v ∷ vs) e = absurd (none (length vs) e) where
+  none : (k : ℕ) → 0 ≡ suc k → ⊥
+  none k e = omega (arith, e)
+length_zipped (x ∷ xs) [] e = absurd (none (length xs) e) where
+  none : (k : ℕ) → suc k ≡ 0 → ⊥
+  none k e = omega (arith, e)
+length_zipped (x ∷ xs) (v ∷ vs) e = ap suc (length_zipped xs vs (omega (arith, e)))
+
+-- the binders in force have their values
+take_length : {A : Type 0} → (k : ℕ) (l : List A) → length (take k l) ≡ k → k ≤ length l
+take_length zero l e = omega arith
+take_length (suc k) [] e = absurd (none k e) where
+  none : (k : ℕ) → 0 ≡ suc k → ⊥
+  none k e = omega (arith, e)
+take_length (suc k) (x ∷ l) e = up_one k (length l) (take_length k l (omega (arith, e))) where
+  up_one : (k m : ℕ) → k ≤ m → suc k ≤ suc m
+  up_one k m h = omega (arith, h)
+
+pub in_force : {R : Type 0} → (act : Activation R) (b : ℕ) (bound : List (Bound R)) → IsBound act b bound → b ≤ length act.locals
+in_force act b bound w = take_length b act.locals (ap length w.values ∙ length_values bound ∙ sym w.many)
+
+enter_alike : {R : Type 0} → (T : Table R) (S : Store R) (act : Activation R) (b : ℕ) (bound : List (Bound R)) → IsBound act b bound → (ns : List (NodeFrame R)) (fs : List (TreeFrame R)) → FramesAre T S act b ns fs → (thread count : ℕ) (group : List CodeNo) (number : CodeNo) (cs : PlainValues R) (vs : List (PlainValue R))
+    → (c : Option Code) → S.code number ≡ c → IsCodeAt T.procs number c → Same T S (enter_code S thread count group number cs c act vs ns) (entered thread count group number cs (T.procs number) (place_at act bound) vs fs)
+enter_alike {R} T S act b bound w ns fs fr thread count group number cs vs None ce h =
+    subst (λ (o : Option Proc). Same T S (node_moved Stepped act ns (node_raises (codes "type"))) (entered thread count group number cs o (place_at act bound) vs fs)) (sym h) (alike T S Stepped act b ns (node_raises (codes "type")) fs (tree_raises (codes "type")) fr refl)
+enter_alike {R} T S act b bound w ns fs fr thread count group number cs vs (Some c) ce (q, h) =
+    subst (λ (o : Option Proc). Same T S (enter_code S thread count group number cs (Some c) act vs ns) (entered thread count group number cs o (place_at act bound) vs fs)) (sym h.proc_is)
+    (subst (λ (m : ℕ). Same T S (if m == length vs then node_moved Stepped (activation_of number thread count group cs vs) (NodeCalled act ∷ ns) (NodeRun 0 (length vs)) else node_moved Stepped act ns (node_raises (codes "arity"))) (entered thread count group number cs (Some q) (place_at act bound) vs fs)) (sym h.code_is.params_are)
+    (by_arity (length q.params == length vs) refl)) where
+      by_arity : (d : Bool) → (length q.params == length vs) ≡ d
+          → Same T S (if d then node_moved Stepped (activation_of number thread count group cs vs) (NodeCalled act ∷ ns) (NodeRun 0 (length vs)) else node_moved Stepped act ns (node_raises (codes "arity")))
+          (if d then tree_moved Stepped (push (place_at act bound) PendingCalled fs) (TreeRun (place_of number thread count group cs (zipped q.params vs)) (BlockTask q.body)) else tree_moved Stepped fs (tree_raises (codes "arity")))
+      by_arity false e = alike T S Stepped act b ns (node_raises (codes "arity")) fs (tree_raises (codes "arity")) fr refl
+      by_arity true e =
+          let l : length q.params ≡ length vs = same_length (length q.params) (length vs) e in
+          alike T S Stepped (activation_of number thread count group cs vs) (length vs) (NodeCalled act ∷ ns) (NodeRun 0 (length vs)) (push (place_at act bound) PendingCalled fs) (TreeRun (place_of number thread count group cs (zipped q.params vs)) (BlockTask q.body))
+          (NodeCalled act, ns, refl, (act, refl), frames_up T S act b (length act.locals) ns fs (in_force act b bound w) fr) (
+            0,
+            refl,
+            (zipped q.params vs, refl, record { values = zipped_values q.params vs l; many = length_zipped q.params vs l }),
+            record {
+              rest = [];
+              nodes =
+                  subst (λ (o : Option Proc). IsCode T.procs (draft_block (proc_outside o) (bound_names (zipped q.params vs)) q.body) (nodes_of (S.code number)) []) (sym h.proc_is)
+                  (subst (λ (names : List Bytes). IsCode T.procs (draft_block q.outside names q.body) (nodes_of (S.code number)) []) (sym (zipped_names q.params vs l))
+                  (subst (λ (o : Option Code). IsCode T.procs (draft_block q.outside q.params q.body) (nodes_of o) []) (sym ce) h.code_is.reads));
+            },
+          )
+
+pub call_alike : {R : Type 0} → (T : Table R) (S : Store R) → Agrees T S → (a : ℕ) (act : Activation R) (b : ℕ) (bound : List (Bound R)) → IsBound act b bound → (ns : List (NodeFrame R)) (fs : List (TreeFrame R)) → FramesAre T S act b ns fs → (v : PlainValue R) (vs : List (PlainValue R))
+    → Same T S (call_node_plain S a v act vs ns) (call_plain T a v (place_at act bound) vs fs)
+call_alike {R} T S g a act b bound w ns fs fr (ClosureValue thread count group index cs) vs = by_limit (is_call_limit a) where
+  by_code : (o : Option CodeNo) → Same T S (call_node_code S thread count group cs o act vs ns) (call_code T thread count group cs o (place_at act bound) vs fs)
+  by_code None = alike T S Stepped act b ns (node_raises (codes "type")) fs (tree_raises (codes "type")) fr refl
+  by_code (Some number) = enter_alike T S act b bound w ns fs fr thread count group number cs vs (S.code number) refl (g.code number)
+
+  by_limit : (d : Bool) → Same T S (if d then node_moved Stepped act ns (node_raises (codes "call_limit")) else call_node_code S thread count group cs (slice_get group index) act vs ns)
+      (if d then tree_moved Stepped fs (tree_raises (codes "call_limit")) else call_code T thread count group cs (slice_get group index) (place_at act bound) vs fs)
+  by_limit true = alike T S Stepped act b ns (node_raises (codes "call_limit")) fs (tree_raises (codes "call_limit")) fr refl
+  by_limit false = by_code (slice_get group index)
+call_alike T S g a act b bound w ns fs fr (LocationValue Engine e) vs = inl (refl, refl)
+call_alike T S g a act b bound w ns fs fr (LocationValue Object r) vs = alike T S Stepped act b ns (node_raises (codes "type")) fs (tree_raises (codes "type")) fr refl
+call_alike T S g a act b bound w ns fs fr (LocationValue Array r) vs = alike T S Stepped act b ns (node_raises (codes "type")) fs (tree_raises (codes "type")) fr refl
+call_alike T S g a act b bound w ns fs fr (LocationValue Variable r) vs = alike T S Stepped act b ns (node_raises (codes "type")) fs (tree_raises (codes "type")) fr refl
+call_alike T S g a act b bound w ns fs fr (LocationValue Writer r) vs = alike T S Stepped act b ns (node_raises (codes "type")) fs (tree_raises (codes "type")) fr refl
+call_alike T S g a act b bound w ns fs fr (LocationValue Condition r) vs = alike T S Stepped act b ns (node_raises (codes "type")) fs (tree_raises (codes "type")) fr refl
+call_alike T S g a act b bound w ns fs fr (IntValue z) vs = alike T S Stepped act b ns (node_raises (codes "type")) fs (tree_raises (codes "type")) fr refl
+call_alike T S g a act b bound w ns fs fr (TruthValue z) vs = alike T S Stepped act b ns (node_raises (codes "type")) fs (tree_raises (codes "type")) fr refl
+call_alike T S g a act b bound w ns fs fr OkayValue vs = alike T S Stepped act b ns (node_raises (codes "type")) fs (tree_raises (codes "type")) fr refl
+call_alike T S g a act b bound w ns fs fr (TextValue z) vs = alike T S Stepped act b ns (node_raises (codes "type")) fs (tree_raises (codes "type")) fr refl
+call_alike T S g a act b bound w ns fs fr (ExceptionValue z) vs = alike T S Stepped act b ns (node_raises (codes "type")) fs (tree_raises (codes "type")) fr refl
+call_alike T S g a act b bound w ns fs fr (ThreadValue z) vs = alike T S Stepped act b ns (node_raises (codes "type")) fs (tree_raises (codes "type")) fr refl
+
+pub result_alike : {R : Type 0} → (T : Table R) (S : Store R) (act : Activation R) (b : ℕ) (ns : List (NodeFrame R)) (fs : List (TreeFrame R)) → FramesAre T S act b ns fs → (r : PlainResult R) → Same T S (node_result r act ns) (tree_result r fs)
+result_alike T S act b ns fs fr (Gives v) = alike T S Stepped act b ns (NodeValue v) fs (TreeValue v) fr refl
+result_alike T S act b ns fs fr (Raises e) = alike T S Stepped act b ns (node_raises e) fs (tree_raises e) fr refl
+result_alike T S act b ns fs fr (Does op) = alike T S (Asks op) act b ns (NodeValue OkayValue) fs (TreeValue OkayValue) fr refl
+result_alike T S act b ns fs fr Beyond = inl (refl, refl)
+
+finish_alike : {R : Type 0} → (T : Table R) (S : Store R) → Agrees T S → (a : ℕ) (act : Activation R) (b : ℕ) (bound : List (Bound R)) → IsBound act b bound → (ns : List (NodeFrame R)) (fs : List (TreeFrame R)) → FramesAre T S act b ns fs → (callee : Callee R) (vs : List (PlainValue R))
+    → Same T S (finish_node S a callee act vs ns) (finish_args T a callee (place_at act bound) vs fs)
+finish_alike T S g a act b bound w ns fs fr (ToCall f) vs = call_alike T S g a act b bound w ns fs fr f vs
+finish_alike {R} T S g a act b bound w ns fs fr (ToBuiltin r) vs = by_arity (length vs == arity_of_builtin (builtin_at r)) where
+  by_arity : (d : Bool) → Same T S (if d then node_result (applied (builtin_at r) vs) act ns else node_moved Stepped act ns (node_raises (codes "arity"))) (if d then tree_result (applied (builtin_at r) vs) fs else tree_moved Stepped fs (tree_raises (codes "arity")))
+  by_arity true = result_alike T S act b ns fs fr (applied (builtin_at r) vs)
+  by_arity false = alike T S Stepped act b ns (node_raises (codes "arity")) fs (tree_raises (codes "arity")) fr refl
+finish_alike T S g a act b bound w ns fs fr ToArray vs = result_alike T S act b ns fs fr (array_made vs)
+finish_alike T S g a act b bound w ns fs fr ToIndex vs = result_alike T S act b ns fs fr (indexed vs)
+finish_alike T S g a act b bound w ns fs fr (ToInvoke x) vs = result_alike T S act b ns fs fr (invoked a x vs)
+
+pub args_alike : {R : Type 0} → (T : Table R) (S : Store R) → Agrees T S → (a : ℕ) (act : Activation R) (b : ℕ) (bound : List (Bound R)) → IsBound act b bound → (ns : List (NodeFrame R)) (fs : List (TreeFrame R)) → FramesAre T S act b ns fs → (callee : Callee R) (done : List (PlainValue R)) (child : ℕ) (es : ExprTrees)
+    → StandsAt T S act.code (draft_exprs (outside_at T (place_at act bound)) (bound_names bound) es) child
+    → Same T S (args_node S a callee act done child (count_exprs es) b ns) (begin_args T a callee (place_at act bound) done es fs)
+args_alike T S g a act b bound w ns fs fr callee done child NoExprs h = finish_alike T S g a act b bound w ns fs fr callee done
+args_alike T S g a act b bound w ns fs fr callee done child (AnExpr e es) h =
+    alike T S Silent act b (NodeArguments callee done (S.end act.code child) (count_exprs es) b ∷ ns) (NodeRun child b) (push (place_at act bound) (PendingArguments callee done es) fs) (TreeRun (place_at act bound) (ExprTask e))
+    (NodeArguments callee done (S.end act.code child) (count_exprs es) b, ns, refl, (S.end act.code child, b, refl, not_above b, (bound, refl, w), second_of T S g (drafted_expr _ _ e) h), fr)
+    (child, refl, (bound, refl, w), first_of T S h)
