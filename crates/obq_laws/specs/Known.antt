@@ -171,13 +171,13 @@ HasKind kind (Some c) = location_kind c ≡ kind
 abbrev pub IsPlace : Store ℕ → LocKind → ℕ → Type 0
 IsPlace st kind r = HasKind kind (cell_at st r)
 
--- a thread's number is that of a thread
-abbrev pub IsThread : List ThreadState → ℕ → Type 0
-IsThread ts n = n < length ts
+-- so many threads; integers and texts are bounded where B holds
+abbrev pub Numbered : Type 0 → ℕ → Threads
+Numbered B n = record { numbers = λ u. u < n; bounded = B }
 
--- these threads; integers and texts are bounded where B holds
+-- these threads
 abbrev pub Counted : Type 0 → List ThreadState → Threads
-Counted B ts = record { numbers = IsThread ts; bounded = B }
+Counted B ts = Numbered B (length ts)
 
 abbrev pub AreKnownCells : Places ℕ → Threads → List (Cell ℕ) → Type 0
 AreKnownCells L T [] = Unit {0}
