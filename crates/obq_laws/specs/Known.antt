@@ -1,12 +1,15 @@
 -- Terms whose locations, thread numbers and members are known: each location is one of its kind that L allows, each thread one that T allows,
 -- each member an index of its group, and no closure lies too deep. Where T says that they are bounded, integers have 64 bits, and texts at most
 -- 65,536 bytes.
-use Rattle.std.specs.Prelude.{List, None, Option, Some, [], length, slice_get, true, ℕ, ℤ, ◌<◌, ◌∷◌, ◌≡◌, ◌≤◌}
+use Rattle.std.specs.Prelude.{List, None, Option, Some, [], length, map, slice_get, true, ℕ, ℤ, ◌<◌, ◌∷◌, ◌≡◌, ◌≤◌}
 use Rattle.obq_base.specs.declared.acts.Entry.{Entry}
 use Rattle.obq_base.specs.declared.limits.TheConstants.{ARRAY_LIMIT, CLOSURE_LIMIT, TEXT_LIMIT}
 use Rattle.obq_base.specs.declared.tokens.TokenKind.{TokenKind}
 use Rattle.obq_base.specs.declared.tokens.TokenKind.TheVariants as kind_of
+use Rattle.obq_base.specs.declared.trees.Block.{Block}
 use Rattle.obq_base.specs.Tree.{BlockTree}
+use Rattle.obq_base.specs.View.{block_tree}
+use Rattle.obq_model.specs.Sources.{AreAccepted}
 use Rattle.obq_model.specs.Terms.{Bytes, LocKind, Object, Array, Variable, Writer, Condition, Engine, Value, Int, Text, Exc, Thread, Closure, Member, Loc, FieldBody, IsValue, IsMethod, IsAlias, Fields, Bare, Field, Kind, Read, Within, Counting, EachAt, EachIn, Cloning, Testing, Lined, Out, Term, Const, Name, Under, Form, Parts, End, Part}
 use Rattle.obq_model.specs.Depth.{deepest, deepest_of}
 use Rattle.obq_model.specs.Store.{Cell, ObjectCell, ArrayCell, VariableCell, WriterCell, ConditionCell, EngineCell, Store, same_loc}
@@ -214,6 +217,10 @@ IsBoundedLeaf kind place = Unit {0}
 abbrev pub AreBounded : List BlockTree → Type 0
 AreBounded [] = Unit {0}
 AreBounded (tree ∷ trees) = BlockLeaves IsBoundedLeaf tree × AreBounded trees
+
+-- those of accepted sources are
+abbrev pub SourcesAreBounded : Type 0
+SourcesAreBounded = (sources : List (List ℕ)) (trees : List Block) → AreAccepted sources trees → AreBounded (map block_tree trees)
 
 -- so in every configuration that a journal of a program replays to, with integers and texts bounded where those of its trees are
 abbrev pub ReferencesLaw : Type 0
