@@ -14,7 +14,8 @@ use Rattle.obq_model.specs.Cells.{is_clear, is_refused, mode_for, owner_for, set
 use Rattle.obq_model.specs.Effect.{Outcome, Waiting, Acting, Forking, get, invoke, set_here, set_field, on_object, at_object, item, set_item, set_variable, write, with_line, owned_by, line_of, in_line, imported, joined, perform}
 use Rattle.obq_model.proofs.Slices.{set_length}
 use Rattle.obq_laws.specs.Known.{Places, Threads, IsKnown, AreKnown, IsKnownValue, AreKnownFields, IsKnownBody, AllKnown, IsKnownCell, location_kind, IsKnownAfter, IsKnownOperation, AreKnownCells, AreKnownNames, IsKnownStore, IsKnownExecution, AreKnownThreads}
-use Rattle.obq_laws.proofs.KnownStep.{known_put_all, known_enter, known_body, length_int}
+use Rattle.obq_laws.proofs.KnownStep.{known_put_all, known_enter, known_body}
+use Rattle.obq_laws.proofs.Numbers.{length_int}
 
 abbrev pub KnownOutcome : Places ℕ → Threads → Outcome → Type 0
 KnownOutcome L T Waiting = Unit {0}

@@ -1,11 +1,8 @@
 -- What stands next in a known term is known.
-use Rattle.std.specs.Prelude.{Bool, List, None, Option, Some, [], bytes_eq, drop, false, if◌then◌else◌, int_div, int_lt, int_rem, length, max, nat_lt, negsuc, not, pos, refl, replicate, suc, take, true, zero, ℕ, ℤ, ◌&&◌, ◌*ℤ◌, ◌++◌, ◌+ℤ◌, ◌+◌, ◌-ℤ◌, ◌==◌, ◌∷◌, ◌≡◌, ◌≤◌, codes, ◌^◌, ◌<◌}
+use Rattle.std.specs.Prelude.{Bool, List, None, Option, Some, [], bytes_eq, drop, false, if◌then◌else◌, int_div, int_lt, int_rem, length, max, nat_lt, negsuc, not, pos, refl, replicate, suc, take, true, zero, ℕ, ℤ, ◌&&◌, ◌*ℤ◌, ◌++◌, ◌+ℤ◌, ◌+◌, ◌-ℤ◌, ◌==◌, ◌∷◌, ◌≡◌, ◌≤◌}
 use Rattle.std.proofs.Common.{subst, ap, sym, arith}
 use Rattle.std.proofs.lemmas.Bool.{eqb-true}
 use Rattle.std.proofs.lemmas.Bool.Decides.{nat_tests}
-use Rattle.std.proofs.lemmas.Fmt.{length-decimal-le}
-use Rattle.std.proofs.lemmas.List.{length-drop, length-take}
-use Rattle.std.specs.Fmt.{signed_decimal}
 use Rattle.obq_base.specs.declared.limits.TheConstants.{ARRAY_LIMIT, CLOSURE_LIMIT, TEXT_LIMIT}
 use Rattle.obq_base.specs.declared.trees.Flags.{Flags}
 use Rattle.obq_base.specs.declared.trees.Operator.{Operator}
@@ -16,6 +13,7 @@ use Rattle.obq_model.specs.Exceptions.{raising, arity, int_overflow, text_limit,
 use Rattle.obq_model.specs.Builtins.{is_i64, number, divided, same, compared, operate, part, arity_of_builtin}
 use Rattle.obq_model.specs.Store.{ObjectCell, ArrayCell, field_names, twice}
 use Rattle.obq_model.specs.Step.{Self, Itself, New, CallMethod, Set, EachItem, RunEngine, is_operand, Frame, Pending, values_before, plug, self_in, activations_in, Found, Next, Needs, Done, Uncaught, part_at, params_of, body_with, is_call_limit, call_closure, with_one_parameter, call_engine, is_callable, call_value, field_before, fields_of, layout_names, new_object, make_object, object_before, objects, clone, array_of_size, fork_of, apply, counting, choose, out_of_method, chosen, tested, watching, cloned, row, out_of_loop, out_of_try, at_raised, through, find, find_part}
+use Rattle.obq_laws.proofs.Numbers.{decimal_short, length_int, next_int, part_length, truth_length}
 use Rattle.obq_laws.specs.Known.{Places, Threads, AllObjects, IsKnown, AreKnown, IsKnownValue, IsKnownKind, AreKnownFields, IsKnownBody, AllKnown, HasOneParameter, AreKnownFrames, IsKnownFound, IsKnownSelf, IsInt, IsText}
 
 -- ---- putting in
@@ -182,40 +180,11 @@ known_fork L T f None h = (tt, tt)
 known_fork L T f (Some []) h = (h, tt)
 known_fork L T f (Some (x ∷ xs)) h = (tt, tt)
 
--- a part of a text isn't longer
-part_length : (a b : ℕ) (t : Bytes) → length (take b (drop a t)) ≤ length t
-part_length a b t = let l = length-take b (drop a t) in let m = length-drop a t in omega (arith, l, m)
-
 known_part : {R : Type 0} (L : Places R) (T : Threads) (t : Bytes) (a b : ℤ) → IsText T t → IsKnown L T (part t a b)
 known_part L T t (pos a) (pos b) h =
     known_if L T (nat_lt (length t) (a + b)) text_range (Const (Text (take b (drop a t)))) (tt, tt) (λ z. let short : length t ≤ 65536 = h z in let le = part_length a b t in omega (arith, short, le))
 known_part L T t (pos a) (negsuc b) h = (tt, tt)
 known_part L T t (negsuc a) b h = (tt, tt)
-
--- what an integer of 64 bits is written as
-decimal_short : (z : ℤ) → is_i64 z ≡ true → length (signed_decimal z) ≤ 65536
-decimal_short (pos n) h = let l = length-decimal-le 19 n (omega arith) (below_power n h) (below_word n h) in omega (arith, l)
-  where
-    below_power : (n : ℕ) → nat_lt n (2 ^ 63) ≡ true → n < 10 ^ 19
-    below_power n h = grind (arith, nat_tests)
-
-    below_word : (n : ℕ) → nat_lt n (2 ^ 63) ≡ true → n < 2 ^ 64
-    below_word n h = grind (arith, nat_tests)
-decimal_short (negsuc n) h = let l = length-decimal-le 19 (suc n) (omega arith) (below_power n h) (below_word n h) in omega (arith, l)
-  where
-    below_power : (n : ℕ) → nat_lt n (2 ^ 63) ≡ true → suc n < 10 ^ 19
-    below_power n h = grind (arith, nat_tests)
-
-    below_word : (n : ℕ) → nat_lt n (2 ^ 63) ≡ true → suc n < 2 ^ 64
-    below_word n h = grind (arith, nat_tests)
-
--- a length is an integer of 64 bits
-pub length_int : (n : ℕ) → n ≤ 65536 → is_i64 (pos n) ≡ true
-length_int n le = grind (arith, nat_tests)
-
-truth_length : (b : Bool) → length (if b then codes "true" else codes "false") ≤ 65536
-truth_length true = omega arith
-truth_length false = omega arith
 
 known_apply : {R : Type 0} (L : Places R) (T : Threads) (b : Builtin) (vs : List (Value R)) → AllKnown L T vs → IsKnownFound L T (apply b vs)
 known_apply L T Not (Truth b ∷ []) k = tt
@@ -268,13 +237,6 @@ known_operate L T eq _ _ _ = (tt, tt)
 known_counting : {R : Type 0} (L : Places R) (T : Threads) (i n : ℤ) (scope : Term R) → (int_lt n i ≡ false → IsInt T i) → IsInt T n → IsKnown L T scope → IsKnown L T (counting i n scope)
 known_counting L T i n scope one last h =
     term_unless L T (int_lt n i) (Const Okay) (Form (Counting i n) (Part (enter (Int i ∷ []) scope) (Part scope End))) tt (λ e. ((one e, last), (known_enter L T (Int i ∷ []) scope (one e, tt) h, (h, tt))))
-
--- the next integer, where it isn't above the last one
-next_int : (i n : ℤ) → is_i64 i ≡ true → is_i64 n ≡ true → int_lt n (i +ℤ pos 1) ≡ false → is_i64 (i +ℤ pos 1) ≡ true
-next_int (pos a) (pos m) h l e = grind (arith, nat_tests)
-next_int (pos a) (negsuc m) h l e = absurd (cc e)
-next_int (negsuc zero) n h l e = refl
-next_int (negsuc (suc a)) n h l e = grind (arith, nat_tests)
 
 known_choose : {R : Type 0} (L : Places R) (T : Threads) (e : Bytes) (arms : Parts R) → AreKnown L T arms → IsKnown L T (choose e arms)
 known_choose L T e (Part guard (Part block arms)) h = (tt, h)
