@@ -18,7 +18,7 @@ use Rattle.obq_base.specs.Tree.{BlockTree, ItemTree, ProcedureTree, FieldTree, E
 use Rattle.obq_base.specs.View.{ArmPair, BindPart, FieldPart, LinkPart, RecBindPart, arm_pair, arm_trees, bind_part, bind_trees, block_tree, expr_tree, expr_trees, field_part, field_tree, field_trees, item_tree, item_trees, link_trees, maybe_tree, procedure_tree, rec_bind_part, rec_bind_trees, suffix_tree, suffix_trees}
 use Rattle.obq_model.specs.Grammar.{IsBlock, IsMore, IsItem, IsLet, IsBinds, IsMoreBinds, IsBind, IsRecBinds, IsMoreRecBinds, IsRecBind, IsFieldBody, IsMeth, IsProc, IsParameters, IsNames, IsMoreNames, IsExpr, IsLevel, IsLinks, IsSuffixed, IsSuffixes, IsSuffix, IsDotted, IsCall, IsArgs, IsMoreArgs, IsPrim, IsArray, IsArm, IsElsifs, IsElse, IsTry, IsGuard, IsGuards, IsObject, IsFlagged, IsBothFlags, IsFields, IsMoreFields, IsField, empty, items, no_more, semicolon, more, let_, var, assign, set_field, set_item, plain, let_binds, let_rec, binds, no_bind, one_bind, bind_of, rec_binds, no_rec_bind, one_rec_bind, rec_bind_of, value, method, alias, meth, proc, no_parameter, parameters, names, no_name, one_name, expr, operand, level, no_link, one_link, chain, no_suffix, one_suffix, apply, dotted, index, select, invoke, no_argument, arguments, args, no_arg, one_arg, int, text, true_, false_, ok, name, proc_of, paren, array, object, if_, loop_, exit, for, foreach, try, raise, watch, redirect, clone, no_element, elements, arm_of, no_elsif, one_elsif, no_else, else_, finally, excepts, guard_of, no_guard, one_guard, no_field, unflagged, protected, serialized, flag_alone, flag_fields, other_flag, flags_alone, flags_fields, fields, no_further_field, one_field, field_of}
 use Rattle.obq_model.specs.Nodes.{chained, suffixed}
-use Rattle.obq_grammar.specs.Leaves.{ArmsLeaves, BindsLeaves, BlockLeaves, ExprLeaves, ExprsLeaves, FieldLeaves, FieldsLeaves, ItemLeaves, ItemsLeaves, LinksLeaves, MaybeLeaves, MembersLeaves, ProcedureLeaves, SuffixLeaves, SuffixesLeaves}
+use Rattle.obq_model.specs.Leaves.{ArmsLeaves, BindsLeaves, BlockLeaves, ExprLeaves, ExprsLeaves, FieldLeaves, FieldsLeaves, ItemLeaves, ItemsLeaves, LinksLeaves, MaybeLeaves, MembersLeaves, ProcedureLeaves, SuffixLeaves, SuffixesLeaves}
 use Rattle.obq_grammar.proofs.Viewed.{link_is, arm_is, bind_is, block_is, expr_array_is, expr_chain_is, expr_clone_is, expr_exit_is, expr_finally_is, expr_for_is, expr_foreach_is, expr_if_is, expr_int_is, expr_loop_is, expr_object_is, expr_okay_is, expr_procedure_is, expr_raise_is, expr_redirect_is, expr_str_is, expr_suffixed_is, expr_truth_is, expr_try_is, expr_use_is, expr_watch_is, field_alias_is, field_method_is, field_part_is, field_value_is, item_assign_is, item_let_is, item_letrec_is, item_plain_is, item_setfield_is, item_setitem_is, item_var_is, procedure_is, rec_bind_is, suffix_apply_is, suffix_index_is, suffix_invoke_is, suffix_select_is}
 
 abbrev pub Each : (TokenKind → ℕ → Type 0) → List Token → Type 0

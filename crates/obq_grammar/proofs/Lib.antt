@@ -1,4 +1,5 @@
 pub mod Viewed
+pub mod Bounded
 pub mod Leaves
 pub mod Named
 pub mod Theory

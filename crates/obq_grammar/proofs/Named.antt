@@ -14,7 +14,7 @@ use Rattle.obq_model.specs.Occurrences.{IsFirstUnbound, free_arms, free_binds, f
 use Rattle.obq_model.specs.Put.{among}
 use Rattle.obq_model.specs.Terms.{Bytes}
 use Rattle.obq_model.specs.Tokens.{IsAscending}
-use Rattle.obq_grammar.specs.Leaves.{ArmsLeaves, BindsLeaves, BlockLeaves, ExprLeaves, ExprsLeaves, FieldLeaves, FieldsLeaves, ItemLeaves, ItemsLeaves, LinksLeaves, MaybeLeaves, MembersLeaves, ProcedureLeaves, SuffixLeaves, SuffixesLeaves}
+use Rattle.obq_model.specs.Leaves.{ArmsLeaves, BindsLeaves, BlockLeaves, ExprLeaves, ExprsLeaves, FieldLeaves, FieldsLeaves, ItemLeaves, ItemsLeaves, LinksLeaves, MaybeLeaves, MembersLeaves, ProcedureLeaves, SuffixLeaves, SuffixesLeaves}
 use Rattle.obq_grammar.proofs.Leaves.{Each, told_block}
 
 -- K holds of each occurrence, as the token of a name

@@ -1,4 +1,4 @@
 pub mod Follow
 pub mod Fails
 pub mod Parts
-pub mod Leaves
+pub mod Bounds

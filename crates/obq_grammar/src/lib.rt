@@ -5,12 +5,13 @@ ghost use Rattle.std.specs.Prelude.{◌≡◌, Contains, List, ℕ};
 ghost use Rattle.obq_base.specs.declared.tokens.Token.{Token};
 ghost use Rattle.obq_base.specs.declared.trees.Block.{Block};
 ghost use Rattle.obq_base.specs.View.{block_tree};
-ghost use Rattle.obq_grammar.specs.Leaves.{BlockLeaves};
+ghost use Rattle.obq_model.specs.Leaves.{BlockLeaves};
 ghost use Rattle.obq_model.specs.Grammar.{Derives};
 ghost use Rattle.obq_model.specs.Nodes.{token};
 ghost use Rattle.obq_model.specs.Occurrences.{IsFirstUnbound};
 ghost use Rattle.obq_model.specs.Syntax.{IsFirstFault};
 ghost use Rattle.obq_model.specs.Tokens.{IsAscending};
+ghost use Rattle.obq_grammar.specs.Bounds.{SourcesAreBounded};
 
 mod productions;
 
@@ -39,4 +40,9 @@ pub fn leaves_are_tokens()
 /// No tree that tokens at ascending places derive has two first unbound names.
 pub fn one_unbound()
     ensures { (tokens : List Token) (tree : Block) (a b : List ℕ) (p q : ℕ) → IsAscending 0 tokens → Derives tokens tree → IsFirstUnbound (block_tree tree) a p → IsFirstUnbound (block_tree tree) b q → (a ≡ b) × (p ≡ q) }
+{}
+
+/// The trees of accepted sources have integers of 64 bits, and texts of at most 65,536 bytes.
+pub fn sources_are_bounded()
+    ensures law { SourcesAreBounded }
 {}

@@ -17,8 +17,8 @@ use Rattle.obq_model.specs.Effect.{Acting, Forking, perform, end_by}
 use Rattle.obq_model.specs.Exceptions.{fork_limit}
 use Rattle.obq_model.specs.OneCell.{SameKind}
 use Rattle.obq_model.proofs.Slices.{get_below, set_same, set_other, set_length, push_same, push_other, push_length}
-use Rattle.obq_grammar.specs.Leaves.{ArmsLeaves, BindsLeaves, BlockLeaves, ExprLeaves, ExprsLeaves, FieldLeaves, FieldsLeaves, ItemLeaves, ItemsLeaves, LinksLeaves, MaybeLeaves, MembersLeaves, ProcedureLeaves, SuffixLeaves, SuffixesLeaves}
-use Rattle.obq_laws.specs.Known.{Places, Threads, AllObjects, IsKnown, AreKnown, IsKnownValue, IsKnownKind, AreKnownFields, IsKnownBody, AllKnown, IsKnownCell, IsKnownFound, location_kind, HasKind, IsPlace, AreBounded, Counted, IsBoundedLeaf, AreKnownCells, AreKnownNames, IsKnownStore, IsKnownExecution, AreKnownThreads, IsKnownConfig, ReferencesLaw, NextIsKnown}
+use Rattle.obq_model.specs.Leaves.{AreBounded, IsBoundedLeaf, ArmsLeaves, BindsLeaves, BlockLeaves, ExprLeaves, ExprsLeaves, FieldLeaves, FieldsLeaves, ItemLeaves, ItemsLeaves, LinksLeaves, MaybeLeaves, MembersLeaves, ProcedureLeaves, SuffixLeaves, SuffixesLeaves}
+use Rattle.obq_laws.specs.Known.{Places, Threads, AllObjects, IsKnown, AreKnown, IsKnownValue, IsKnownKind, AreKnownFields, IsKnownBody, AllKnown, IsKnownCell, IsKnownFound, location_kind, HasKind, IsPlace, Counted, AreKnownCells, AreKnownNames, IsKnownStore, IsKnownExecution, AreKnownThreads, IsKnownConfig, ReferencesLaw, NextIsKnown}
 use Rattle.obq_laws.specs.Locality.{IsLocalStore, SameStore, OneCell, OneName, OneMore}
 use Rattle.obq_laws.specs.Turns.{state_of, changed, CanGo, Turn, Steps, Acts, Forks, Ends, Raises}
 use Rattle.obq_laws.proofs.Changes.{LocalOutcome, local_perform}

@@ -17,7 +17,7 @@ use Rattle.obq_model.specs.Step.{no_self, After, Itself, Entered, Offered, Opera
 use Rattle.obq_model.specs.Config.{Execution, Running, Returned, Failed, ThreadState, Config, cell_at}
 use Rattle.obq_model.specs.Replay.{replay}
 use Rattle.obq_model.specs.Builtins.{is_i64}
-use Rattle.obq_grammar.specs.Leaves.{BlockLeaves}
+use Rattle.obq_model.specs.Leaves.{AreBounded}
 use Rattle.obq_laws.specs.Turns.{state_of}
 
 -- which locations there are
@@ -206,21 +206,6 @@ AreKnownThreads L T (s ∷ ss) = IsKnownExecution L T s.execution × AreKnownThr
 -- no closure lies deeper than 1,000, and no array is longer than 65,536; where B holds, integers have 64 bits, and texts at most 65,536 bytes
 abbrev pub IsKnownConfig : Type 0 → Config → Type 0
 IsKnownConfig B k = IsKnownStore (IsPlace k.store) (Counted B k.threads) k.store × AreKnownThreads (IsPlace k.store) (Counted B k.threads) k.threads
-
--- an integer of 64 bits, a text of at most 65,536 bytes, or something else
-abbrev pub IsBoundedLeaf : TokenKind → ℕ → Type 0
-IsBoundedLeaf (kind_of.Int z) place = is_i64 z ≡ true
-IsBoundedLeaf (kind_of.Text bytes) place = length bytes ≤ TEXT_LIMIT
-IsBoundedLeaf kind place = Unit {0}
-
--- the integers and texts of all trees are so
-abbrev pub AreBounded : List BlockTree → Type 0
-AreBounded [] = Unit {0}
-AreBounded (tree ∷ trees) = BlockLeaves IsBoundedLeaf tree × AreBounded trees
-
--- those of accepted sources are
-abbrev pub SourcesAreBounded : Type 0
-SourcesAreBounded = (sources : List (List ℕ)) (trees : List Block) → AreAccepted sources trees → AreBounded (map block_tree trees)
 
 -- so in every configuration that a journal of a program replays to, with integers and texts bounded where those of its trees are
 abbrev pub ReferencesLaw : Type 0

@@ -5,7 +5,8 @@ use Rattle.obq_model.specs.Terms.{LocKind, Term}
 use Rattle.obq_model.specs.Store.{Cell, Store}
 use Rattle.obq_model.specs.Config.{Running, ThreadState, Config}
 use Rattle.obq_model.specs.Maps.{map_term, map_cell}
-use Rattle.obq_laws.specs.Known.{Places, Threads, HasKind, IsPlace, AreBounded, Counted, Numbered, IsKnown, IsKnownCell, IsKnownOperation, IsKnownExecution, AreKnownCells, AreKnownThreads}
+use Rattle.obq_model.specs.Leaves.{AreBounded}
+use Rattle.obq_laws.specs.Known.{Places, Threads, HasKind, IsPlace, Counted, Numbered, IsKnown, IsKnownCell, IsKnownOperation, IsKnownExecution, AreKnownCells, AreKnownThreads}
 use Rattle.obq_laws.specs.Turns.{state_of}
 use Rattle.obq_laws.proofs.KnownReplay.{references_law, next_is_known}
 use Rattle.obq_stands.specs.World.{Ref, Born, Memory}

@@ -9,7 +9,8 @@ use Rattle.obq_model.specs.Config.{Config}
 use Rattle.obq_model.specs.Effect.{line_of, in_line}
 use Rattle.obq_model.specs.OneCell.{owner_of}
 use Rattle.obq_model.specs.Replay.{output, report}
-use Rattle.obq_laws.specs.Known.{AreBounded, Numbered, location_kind, IsKnownCell, IsKnownOperation, IsKnown}
+use Rattle.obq_model.specs.Leaves.{AreBounded}
+use Rattle.obq_laws.specs.Known.{Numbered, location_kind, IsKnownCell, IsKnownOperation, IsKnown}
 use Rattle.obq_laws.specs.Lines.{count_in}
 use Rattle.obq_laws.specs.Locality.{needs_owner}
 use Rattle.obq_stands.specs.World.{Ref, same_ref, Born, Heap, Slot, Packet, Request, Reply, ByValue, ByException, World, wire}

@@ -1,9 +1,11 @@
 -- The leaves of a tree: the names that occur in it, its integers and its texts, each as the kind of a token, at its place. A name that is
 -- bound, a field's name and a parameter are no leaves.
-use Rattle.std.specs.Prelude.{ℕ}
+use Rattle.std.specs.Prelude.{List, [], length, map, true, ℕ, ◌∷◌, ◌≡◌, ◌≤◌}
+use Rattle.obq_base.specs.declared.limits.TheConstants.{TEXT_LIMIT}
 use Rattle.obq_base.specs.declared.tokens.TokenKind.{TokenKind}
 use Rattle.obq_base.specs.declared.tokens.TokenKind.TheVariants as k
 use Rattle.obq_base.specs.Tree.{BlockTree, BlockOf, MaybeBlock, NoBlock, ABlock, ItemTrees, NoItems, AnItem, ItemTree, LetItem, VarItem, LetRecItem, AssignItem, FieldItem, IndexItem, PlainItem, BindTrees, NoBinds, ABind, RecBindTrees, NoRecBinds, ARecBind, ProcedureTree, AProc, FieldTree, ValueOf, MethodOf, AliasOf, ExprTree, IntTree, TextTree, TruthTree, OkTree, NameTree, ProcTree, ArrayTree, ObjectTree, IfTree, LoopTree, ExitTree, ForTree, ForeachTree, TryTree, FinallyTree, RaiseTree, WatchTree, RedirectTree, CloneTree, ChainTree, SuffixedTree, ExprTrees, NoExprs, AnExpr, LinkTrees, NoLinks, ALink, SuffixTree, ApplySuffix, SelectSuffix, InvokeSuffix, IndexSuffix, SuffixTrees, NoSuffixes, ASuffix, ArmTrees, NoArms, AnArm, FieldTrees, NoFields, AField}
+use Rattle.obq_model.specs.Builtins.{is_i64}
 
 -- K holds of each leaf of a tree
 abbrev mutual
@@ -91,3 +93,14 @@ abbrev mutual
   pub FieldsLeaves : (TokenKind → ℕ → Type 0) → FieldTrees → Type 0
   FieldsLeaves K NoFields = Unit {0}
   FieldsLeaves K (AField x body place fs) = FieldLeaves K body × FieldsLeaves K fs
+
+-- an integer of 64 bits, a text of at most 65,536 bytes, or something else
+abbrev pub IsBoundedLeaf : TokenKind → ℕ → Type 0
+IsBoundedLeaf (k.Int z) place = is_i64 z ≡ true
+IsBoundedLeaf (k.Text bytes) place = length bytes ≤ TEXT_LIMIT
+IsBoundedLeaf kind place = Unit {0}
+
+-- the integers and texts of all trees are so
+abbrev pub AreBounded : List BlockTree → Type 0
+AreBounded [] = Unit {0}
+AreBounded (tree ∷ trees) = BlockLeaves IsBoundedLeaf tree × AreBounded trees

@@ -6,7 +6,8 @@ use Rattle.obq_base.specs.declared.tokens.Token.{Token}
 use Rattle.obq_grammar.proofs.Leaves.{Each, told_block}
 use Rattle.obq_model.specs.Builtins.{is_i64}
 use Rattle.obq_model.specs.Tokens.{IsRead, IsReading, IsSound, Lexeme, Literal, Mark, Number, Word, blank, done, end_token, kind_of, negative, reading, token, word_kind}
-use Rattle.obq_laws.specs.Known.{IsBoundedLeaf, SourcesAreBounded}
+use Rattle.obq_model.specs.Leaves.{IsBoundedLeaf}
+use Rattle.obq_grammar.specs.Bounds.{SourcesAreBounded}
 
 negative_int : (n : ℕ) → IsTrue (nat_le n (2 ^ 63)) → is_i64 (negative n) ≡ true
 negative_int zero h = refl
