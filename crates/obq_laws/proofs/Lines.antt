@@ -25,7 +25,7 @@ use Rattle.obq_laws.specs.Turns.{state_of, changed, with_thread, alone, Turn, St
 use Rattle.obq_model.specs.Forms.{marks_of}
 use Rattle.obq_laws.proofs.Methods.{IsSourceOperation, IsGood, good_find}
 use Rattle.obq_laws.proofs.Formed.{GoodThreadState, good_state, entry_formed, opening_of_formed}
-use Rattle.obq_laws.proofs.OwnerLaw.{eq_refl}
+use Rattle.obq_laws.proofs.OwnerTerms.{eq_refl}
 use Rattle.obq_laws.proofs.Turns.{turn_taken, kept_by_replay}
 
 true_false : true ≡ false → ⊥

@@ -18,7 +18,7 @@ use Rattle.obq_model.proofs.Slices.{get_below, set_same, set_set, set_own, set_l
 use Rattle.obq_laws.specs.Determinism.{entry_of}
 use Rattle.obq_laws.specs.Turns.{state_of, changed, with_thread, CanGo, Turn, Steps, Acts, Forks, Ends, Raises, Turns, NoTurn, TheAct, AStep, TurnByTurn, alone, TurnTaken}
 use Rattle.obq_laws.proofs.HeldActs.{none_some}
-use Rattle.obq_laws.proofs.OwnerLaw.{eq_refl}
+use Rattle.obq_laws.proofs.OwnerTerms.{eq_refl}
 use Rattle.obq_laws.proofs.Exclusion.{act_same_eq}
 use Rattle.obq_laws.proofs.Determinism.{cut_entry}
 

@@ -17,7 +17,7 @@ use Rattle.obq_names.specs.Union.{covered_names, names_of, union}
 use Rattle.obq_names.specs.Walked.{entered, left, outer_of, truncated, walk_arms, walk_binds, walk_block, walk_body, walk_expr, walk_exprs, walk_field, walk_fields, walk_item, walk_items, walk_links, walk_maybe, walk_members, walk_suffix, walk_suffixes, with_all_outer, with_binders, with_use}
 use Rattle.obq_names.proofs.Less.{besides, less_members, less_procedure}
 use Rattle.obq_names.proofs.Unions.{Names, filter_union, union-append, union_union}
-use Rattle.obq_names.proofs.Uses.{all_outer, is_outer, no_place, outer_place, own_place}
+use Rattle.obq_names.proofs.LastPlaces.{all_outer, is_outer, no_place, outer_place, own_place}
 
 -- a walk inside a procedure with these binders outside of it and of its own
 abbrev state : (outer own names : Names) → List Occurrence → List Names → Walker
