@@ -1,3 +1,6 @@
+pub mod Viewed
+pub mod Leaves
+pub mod Named
 pub mod Theory
 pub mod Sets
 pub mod Firsts

@@ -1,4 +1,5 @@
 pub mod Complete
+pub mod Refusals
 pub mod Held
 pub mod Printed
 pub mod PutHistory

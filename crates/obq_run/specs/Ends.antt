@@ -1,5 +1,5 @@
 -- Words on the cause of an end.
-use Rattle.std.specs.Prelude.{List, Option, [], slice_index_or, ℕ, ⊤, ◌⊎◌}
+use Rattle.std.specs.Prelude.{List, Option, [], slice_index_or, ℕ, ⊤, ◌≡◌, ◌⊎◌}
 use Rattle.std.specs.Io.KnownBytes.{Appends}
 use Rattle.obq_base.specs.declared.faults.SourceFault.{SourceFault}
 use Rattle.obq_front.specs.declared.program.FrontRefused.{FrontRefused}
@@ -147,6 +147,18 @@ abbrev pub IsNotYetOrNoMemory : Cause → Type 0
 IsNotYetOrNoMemory (NotYet source token) = ⊤
 IsNotYetOrNoMemory NoMemory = ⊤
 IsNotYetOrNoMemory cause = ⊥
+
+-- this source is refused with this fault, or no memory was left
+abbrev pub IsRefusedOrNoMemory : ℕ → SourceFault → Cause → Type 0
+IsRefusedOrNoMemory k fault (Refused source told) = (source ≡ k) × (told ≡ fault)
+IsRefusedOrNoMemory k fault NoMemory = ⊤
+IsRefusedOrNoMemory k fault cause = ⊥
+
+-- this source is too long, or no memory was left
+abbrev pub IsTooLongOrNoMemory : ℕ → Cause → Type 0
+IsTooLongOrNoMemory k (SourceTooLong source) = source ≡ k
+IsTooLongOrNoMemory k NoMemory = ⊤
+IsTooLongOrNoMemory k cause = ⊥
 
 -- it ran, and its output was written whole or not
 abbrev pub IsRunFinish : Cause → Type 0

@@ -4,3 +4,5 @@ pub mod Emitted
 pub mod Heads
 pub mod Refused
 pub mod Seen
+pub mod Narrowed
+pub mod Sizes
