@@ -4,4 +4,4 @@ pub mod Held
 pub mod Printed
 pub mod PutHistory
 pub mod PutTexts
-pub mod Unruns
+pub mod RunRefusals

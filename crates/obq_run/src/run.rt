@@ -9,7 +9,7 @@ ghost use Rattle.obq_io.specs.Known.{GetsPrefix};
 ghost use Rattle.obq_model.specs.Output.{run_text};
 ghost use Rattle.obq_model.specs.Sources.{AreAccepted};
 ghost use Rattle.obq_journal.specs.Recording.{shown};
-ghost use Rattle.obq_run.specs.Ends.{GetsLine, IfNotYet, IfReadFault, IfRefused, IfTooLong, IfUnrun, IsRefusal, IsRunEnd, IsRunFinish, IsRunRefusal, OnRan, OnWriteFault, line_of, status_of, unrun_cause};
+ghost use Rattle.obq_run.specs.Ends.{GetsLine, IfNotYet, IfReadFault, IfRefused, IfTooLong, IfRunRefused, IsRefusal, IsRunEnd, IsRunFinish, IsRunRefusal, OnRan, OnWriteFault, line_of, status_of, run_refusal_cause};
 ghost use Rattle.obq_run.specs.Held.{IsFaultAt, IsTooLongAt, PathRose};
 ghost use Rattle.obq_run.specs.Runs.{IsEndOf, IsNotYetOf, IsRefusalOf, IsRunOf, NotYetCompletes, OnlyWrites, RefusalCompletes, RunCompletes, RunsOf, StopsRun, TooLongCompletes, one_ended};
 ghost use Rattle.obq_words.specs.Words.{AreInForm, names_of, paths_of};
@@ -17,7 +17,7 @@ ghost use Rattle.obq_words.specs.Words.{AreInForm, names_of, paths_of};
 use crate::accepted::accepted_sources;
 use crate::ends::{Cause, End, status_for};
 use crate::history::{Ran, run_texts};
-use crate::put_texts::{Unreadable, read_texts};
+use crate::put_texts::{TextsRefused, read_texts};
 use crate::texts::{write_cause, write_run};
 use obq_base::Report;
 use obq_base::limits::{DEFAULT_TURNS, SOURCE_LIMIT};
@@ -28,43 +28,43 @@ use obq_words::SiteWord;
 use std::alloc::Global;
 
 /// Why a source was not run.
-pub enum Unrun {
+pub enum RunRefused {
     /// The first token that differs from those of a source that runs.
     NotYet { token: u32 },
     NoMemory,
 }
 
 /// Runs an accepted source, without writing anything.
-fn run_source(alloc: Global, source: &[u8]) -> Result<Ran, Unrun>
+fn run_source(alloc: Global, source: &[u8]) -> Result<Ran, RunRefused>
     requires within { length source.now ≤ SOURCE_LIMIT }
     requires accepted { (trees : List Block) × AreAccepted (source.now ∷ []) trees }
     ensures ran { IfOk result (λ r. IsEndOf (source.now ∷ []) DEFAULT_TURNS (shown r.journal) (r.bytes.items ∷ []) one_ended) }
     ensures form { IfOk result (λ r. OnlyWrites source.now) }
-    ensures unrun { IfErr result (λ why. IfUnrun why (StopsRun (source.now ∷ []) 0)) }
+    ensures unrun { IfErr result (λ why. IfRunRefused why (StopsRun (source.now ∷ []) 0)) }
 {
     let tokens = match lex(alloc, source) {
         Ok(tokens) => tokens,
         Err(LexRefused::Fault { kind: _, place: _ }) => unreachable!(),
-        Err(LexRefused::NoMemory) => return Err(Unrun::NoMemory),
+        Err(LexRefused::NoMemory) => return Err(RunRefused::NoMemory),
     };
     let texts = match read_texts(alloc, &tokens) {
         Ok(texts) => texts,
-        Err(Unreadable::At { token }) => return Err(Unrun::NotYet { token }),
-        Err(Unreadable::NoMemory) => return Err(Unrun::NoMemory),
+        Err(TextsRefused::At { token }) => return Err(RunRefused::NotYet { token }),
+        Err(TextsRefused::NoMemory) => return Err(RunRefused::NoMemory),
     };
     match run_texts(alloc, &texts, DEFAULT_TURNS) {
         Ok(ran) => Ok(ran),
-        Err(_) => Err(Unrun::NoMemory),
+        Err(_) => Err(RunRefused::NoMemory),
     }
 }
 
 /// The cause where the one source was not run.
-fn cause_of_unrun(unrun: Unrun) -> Cause
-    ensures { result ≡ unrun_cause unrun }
+fn cause_of_unrun(unrun: RunRefused) -> Cause
+    ensures { result ≡ run_refusal_cause unrun }
 {
     match unrun {
-        Unrun::NotYet { token } => Cause::NotYet { source: 0, token },
-        Unrun::NoMemory => Cause::NoMemory,
+        RunRefused::NotYet { token } => Cause::NotYet { source: 0, token },
+        RunRefused::NoMemory => Cause::NoMemory,
     }
 }
 

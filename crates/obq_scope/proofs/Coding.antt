@@ -13,7 +13,7 @@ use Rattle.obq_names.specs.Captures.{captured_names, captures_arms, captures_bin
 use Rattle.obq_names.proofs.Unions.{Names}
 use Rattle.obq_scope.specs.declared.emitter.Emitter.{Emitter}
 use Rattle.obq_scope.specs.declared.output.Output.{Output}
-use Rattle.obq_scope.specs.Coded.{begun, captured, coded_arms, coded_binds, coded_block, coded_body, coded_expr, coded_exprs, coded_field, coded_fields, coded_item, coded_items, coded_links, coded_maybe, coded_members, coded_numbers, coded_suffix, coded_suffixes, onto, taken, whole}
+use Rattle.obq_scope.specs.Coded.{begun, captured, coded_arms, coded_binds, coded_block, coded_body, coded_expr, coded_exprs, coded_field, coded_fields, coded_item, coded_items, coded_links, coded_maybe, coded_members, coded_numbers, coded_suffix, coded_suffixes, emitter_with, past_captures, whole}
 use Rattle.obq_scope.specs.Emitted.{closed, emitted, member_numbers, next_number, opened, with_members, with_node}
 use Rattle.obq_scope.specs.Narrowed.{found_slot, found_slots, narrowed, numbered}
 use Rattle.obq_scope.specs.Sizes.{size_arms, size_binds, size_block, size_body, size_expr, size_exprs, size_field, size_fields, size_item, size_items, size_links, size_maybe, size_members, size_suffix, size_suffixes}
@@ -30,7 +30,7 @@ captures_fit o locals p = let a = captured_fits o locals [] (free_procedure [] p
 closure : (o : Outside) (locals bound : Names) (p : ProcedureTree) (make : CodeNo → List Slot → Node) (out : Output) → Covers o locals bound
     → Fits (inside o [] (captured_by o locals p)) [] (coded_body (inside o [] (captured_by o locals p)) p) (captures_body bound p) 0 (size_body p) (opened out)
     (emitted o.source (draft_body (inside o [] (captured_by o locals p)) p) (opened out))
-    → Fits o locals (λ s. onto (make (numbered o.source (coded_body (inside o [] (captured o locals s)) p (begun s)).output) (found_slots o locals (captured o locals s)))
+    → Fits o locals (λ s. emitter_with (make (numbered o.source (coded_body (inside o [] (captured o locals s)) p (begun s)).output) (found_slots o locals (captured o locals s)))
     (whole (narrowed (length (captured o locals s))) (narrowed (count_params p)) s.output.nodes (coded_body (inside o [] (captured o locals s)) p (begun s))))
     (captured_names bound p ∷ captures_body bound p) 0 (1 + size_body p) out
     (with_node (make (next_number o.source (emitted o.source (draft_body (inside o [] (captured_by o locals p)) p) (opened out))) (slots_of o locals (captured_by o locals p)))
@@ -48,9 +48,9 @@ closure o locals bound p make out c body r =
     record {
       codes = λ more.
           let start : Emitter = at (opened out) (captures_body bound p ++ more) in
-          ap (λ (z : Names). onto (make (numbered o.source (coded_body (inside o [] z) p start).output) (found_slots o locals z)) (whole (narrowed (length z)) (narrowed (count_params p)) out.nodes (coded_body (inside o [] z) p start)))
+          ap (λ (z : Names). emitter_with (make (numbered o.source (coded_body (inside o [] z) p start).output) (found_slots o locals z)) (whole (narrowed (length z)) (narrowed (count_params p)) out.nodes (coded_body (inside o [] z) p start)))
           (captures_are o locals bound (free_procedure [] p) c)
-          ∙ ap (λ (v : Emitter). onto (make (numbered o.source v.output) (found_slots o locals names)) (whole (narrowed (length names)) (narrowed (count_params p)) out.nodes v)) (m.codes more)
+          ∙ ap (λ (v : Emitter). emitter_with (make (numbered o.source v.output) (found_slots o locals names)) (whole (narrowed (length names)) (narrowed (count_params p)) out.nodes v)) (m.codes more)
           ∙ ap (λ (k : ℕ). at (with_node (make (record { source = o.source; n = k }) (found_slots o locals names)) (closed (narrowed (length names)) (narrowed (count_params p)) out.nodes last)) more) (narrow_at (length last.codes) few)
           ∙ ap (λ (l : List Slot). at (with_node (make (next_number o.source last) l) (closed (narrowed (length names)) (narrowed (count_params p)) out.nodes last)) more) (slots_at r names)
           ∙ ap (λ (k : ℕ). at (with_node (make (next_number o.source last) (slots_of o locals names)) (closed (narrowed (length names)) k out.nodes last)) more) (narrow_at (count_params p) own)
@@ -104,8 +104,8 @@ group : (o : Outside) (locals bound : Names) (bs : RecBindTrees) (out : Output) 
     → Groups (inside o (member_names bs) (captured_by_group o locals bs)) bs (captures_members (bound ++ member_names bs) bs) out
     (with_members o.source (length (captured_by_group o locals bs)) bs (draft_members (inside o (member_names bs) (captured_by_group o locals bs)) bs) out)
     (member_numbers o.source (length (captured_by_group o locals bs)) bs (draft_members (inside o (member_names bs) (captured_by_group o locals bs)) bs) out)
-    → Fits o locals (λ s. onto (n.LetRec (coded_numbers (inside o (member_names bs) (captured o locals s)) bs (taken s)) (found_slots o locals (captured o locals s)))
-    (coded_members (inside o (member_names bs) (captured o locals s)) bs (taken s)))
+    → Fits o locals (λ s. emitter_with (n.LetRec (coded_numbers (inside o (member_names bs) (captured o locals s)) bs (past_captures s)) (found_slots o locals (captured o locals s)))
+    (coded_members (inside o (member_names bs) (captured o locals s)) bs (past_captures s)))
     (group_names bound bs ∷ captures_members (bound ++ member_names bs) bs) (length (member_names bs)) (size_members bs) out
     (with_node
     (n.LetRec (member_numbers o.source (length (slots_of o locals (captured_by_group o locals bs))) bs (draft_members (inside o (member_names bs) (captured_by_group o locals bs)) bs) out)
@@ -122,13 +122,13 @@ group o locals bound bs out c members r =
     record {
       codes = λ more.
           let start : Emitter = at out (captures_members (bound ++ member_names bs) bs ++ more) in
-          let last : ℕ → Emitter = λ k. onto (n.LetRec (member_numbers o.source k bs (draft_members (inside o (member_names bs) names) bs) out) (slots_of o locals names))
+          let last : ℕ → Emitter = λ k. emitter_with (n.LetRec (member_numbers o.source k bs (draft_members (inside o (member_names bs) names) bs) out) (slots_of o locals names))
           (at (with_members o.source k bs (draft_members (inside o (member_names bs) names) bs) out) more) in
-          ap (λ (z : Names). onto (n.LetRec (coded_numbers (inside o (member_names bs) z) bs start) (found_slots o locals z)) (coded_members (inside o (member_names bs) z) bs start))
+          ap (λ (z : Names). emitter_with (n.LetRec (coded_numbers (inside o (member_names bs) z) bs start) (found_slots o locals z)) (coded_members (inside o (member_names bs) z) bs start))
           (captures_are o locals bound (free_members (member_names bs) bs) c)
-          ∙ ap (λ (l : List CodeNo). onto (n.LetRec l (found_slots o locals names)) (coded_members (inside o (member_names bs) names) bs start)) (g.tells more)
-          ∙ ap (λ (l : List Slot). onto (n.LetRec (member_numbers o.source (length names) bs (draft_members (inside o (member_names bs) names) bs) out) l) (coded_members (inside o (member_names bs) names) bs start)) (slots_at r names)
-          ∙ ap (λ (v : Emitter). onto (n.LetRec (member_numbers o.source (length names) bs (draft_members (inside o (member_names bs) names) bs) out) (slots_of o locals names)) v) (g.codes more)
+          ∙ ap (λ (l : List CodeNo). emitter_with (n.LetRec l (found_slots o locals names)) (coded_members (inside o (member_names bs) names) bs start)) (g.tells more)
+          ∙ ap (λ (l : List Slot). emitter_with (n.LetRec (member_numbers o.source (length names) bs (draft_members (inside o (member_names bs) names) bs) out) l) (coded_members (inside o (member_names bs) names) bs start)) (slots_at r names)
+          ∙ ap (λ (v : Emitter). emitter_with (n.LetRec (member_numbers o.source (length names) bs (draft_members (inside o (member_names bs) names) bs) out) (slots_of o locals names)) v) (g.codes more)
           ∙ ap last (sym (length-map names (slot_of o locals)));
       many = subst (λ j. length (with_members o.source j bs (draft_members (inside o (member_names bs) names) bs) out).codes + length (member_names bs) ≤ length out.codes + size_members bs) (sym (length-map names (slot_of o locals))) many;
     }
@@ -163,8 +163,8 @@ in_called o locals bound (SuffixedTree e rest) ss row h = none bound (SuffixedTr
 abbrev coded_by : Outside → Names → ExprTree → SuffixTrees → Emitter → Option ℕ → Emitter
 coded_by o locals e ss s row =
     elim row [
-      | None ↦ coded_suffixes o locals None ss (coded_expr o locals e (onto (n.Suffixes (narrowed (count_suffixes ss))) s))
-      | Some k ↦ coded_suffixes o locals (Some k) ss (onto (n.Suffixes (narrowed (count_suffixes (behind_first ss)))) s)
+      | None ↦ coded_suffixes o locals None ss (coded_expr o locals e (emitter_with (n.Suffixes (narrowed (count_suffixes ss))) s))
+      | Some k ↦ coded_suffixes o locals (Some k) ss (emitter_with (n.Suffixes (narrowed (count_suffixes (behind_first ss)))) s)
     ]
 
 abbrev draft_by : Outside → Names → ExprTree → SuffixTrees → Option ℕ → Draft

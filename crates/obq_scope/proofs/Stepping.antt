@@ -9,7 +9,7 @@ use Rattle.obq_model.specs.Scopes.{Outside}
 use Rattle.obq_names.proofs.Unions.{Names}
 use Rattle.obq_scope.specs.declared.emitter.Emitter.{Emitter}
 use Rattle.obq_scope.specs.declared.output.Output.{Output}
-use Rattle.obq_scope.specs.Coded.{onto}
+use Rattle.obq_scope.specs.Coded.{emitter_with}
 use Rattle.obq_scope.specs.Emitted.{with_node}
 use Rattle.obq_scope.specs.Narrowed.{narrowed}
 use Rattle.obq_scope.specs.Sizes.{size_arms}
@@ -33,13 +33,13 @@ nothing out r = record { codes = λ more. refl; many = omega arith }
 
 -- a node, which is the draft's where there is room
 pub pushes : {o : Outside} {locals : Names} {f : Emitter → Emitter} {lists : List Names} {k size : ℕ} {after : Output} (a b : Node) (out : Output) → (Room o locals out size → a ≡ b)
-    → Fits o locals f lists k size (with_node b out) after → Fits o locals (λ s. f (onto a s)) lists k size out after
+    → Fits o locals f lists k size (with_node b out) after → Fits o locals (λ s. f (emitter_with a s)) lists k size out after
 pushes {f = f} {lists = lists} a b out e c r =
     let m = c (record { room = r.room; members = r.members; captured = r.captured }) in
-    record { codes = λ more. ap (λ z. f (onto z (at out (lists ++ more)))) (e r) ∙ m.codes more; many = m.many }
+    record { codes = λ more. ap (λ z. f (emitter_with z (at out (lists ++ more)))) (e r) ∙ m.codes more; many = m.many }
 
 pub puts : {o : Outside} {locals : Names} {f : Emitter → Emitter} {lists : List Names} {k size : ℕ} {after : Output} (a : Node) (out : Output)
-    → Fits o locals f lists k size (with_node a out) after → Fits o locals (λ s. f (onto a s)) lists k size out after
+    → Fits o locals f lists k size (with_node a out) after → Fits o locals (λ s. f (emitter_with a s)) lists k size out after
 puts a out c = pushes a a out (λ r. refl) c
 
 -- a size may be larger
@@ -95,17 +95,17 @@ fits count size more le r = let room = r.room in narrow_at count (omega (arith, 
 
 -- a node with a count
 pub counted : {o : Outside} {locals : Names} {f : Emitter → Emitter} {lists : List Names} {k : ℕ} {after : Output} (make : ℕ → Node) (count size : ℕ) (out : Output) → count ≤ size
-    → Fits o locals f lists k size (with_node (make count) out) after → Fits o locals (λ s. f (onto (make (narrowed count)) s)) lists k size out after
+    → Fits o locals f lists k size (with_node (make count) out) after → Fits o locals (λ s. f (emitter_with (make (narrowed count)) s)) lists k size out after
 counted make count size out le c = pushes (make (narrowed count)) (make count) out (λ r. ap make (let room = r.room in narrow_at count (omega (arith, room, le)))) c
 
 -- with a count of arms, before them and a block, and behind a block too
 pub armed : {o : Outside} {locals : Names} {f : Emitter → Emitter} {lists : List Names} {after : Output} (make : ℕ → Node) (arms : ArmTrees) (last : ℕ) (out : Output)
-    → Fits o locals f lists 0 (size_arms arms + last) (with_node (make (count_arms arms)) out) after → Fits o locals (λ s. f (onto (make (narrowed (count_arms arms))) s)) lists 0 (size_arms arms + last) out after
+    → Fits o locals f lists 0 (size_arms arms + last) (with_node (make (count_arms arms)) out) after → Fits o locals (λ s. f (emitter_with (make (narrowed (count_arms arms))) s)) lists 0 (size_arms arms + last) out after
 armed make arms last out c = pushes (make (narrowed (count_arms arms))) (make (count_arms arms)) out (λ r. ap make (let room = r.room in let le = arms_fit arms in narrow_at (count_arms arms) (omega (arith, room, le)))) c
 
 pub tried : {o : Outside} {locals : Names} {f : Emitter → Emitter} {lists : List Names} {after : Output} (make : ℕ → Node) (arms : ArmTrees) (first last : ℕ) (out : Output)
     → Fits o locals f lists 0 (first + (size_arms arms + last)) (with_node (make (count_arms arms)) out) after
-    → Fits o locals (λ s. f (onto (make (narrowed (count_arms arms))) s)) lists 0 (first + (size_arms arms + last)) out after
+    → Fits o locals (λ s. f (emitter_with (make (narrowed (count_arms arms))) s)) lists 0 (first + (size_arms arms + last)) out after
 tried make arms first last out c = pushes (make (narrowed (count_arms arms))) (make (count_arms arms)) out (λ r. ap make (let room = r.room in let le = arms_fit arms in narrow_at (count_arms arms) (omega (arith, room, le)))) c
 
 -- parameters alone

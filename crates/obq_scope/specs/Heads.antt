@@ -7,13 +7,13 @@ use Rattle.obq_model.specs.Terms.{Bytes}
 use Rattle.obq_model.specs.Draft.{behind_first, call_node, called_row, count_arms, count_binds, count_exprs, count_suffixes, field_names, has_block, operators_of}
 use Rattle.obq_model.specs.Scopes.{Outside}
 use Rattle.obq_scope.specs.declared.emitter.Emitter.{Emitter}
-use Rattle.obq_scope.specs.Coded.{onto}
+use Rattle.obq_scope.specs.Coded.{emitter_with}
 use Rattle.obq_scope.specs.Narrowed.{found_slot, narrowed}
 
 -- with this node, where there is one
 abbrev pub with_head : Option Node → Emitter → Emitter
 with_head None s = s
-with_head (Some a) s = onto a s
+with_head (Some a) s = emitter_with a s
 
 -- how many suffixes have nodes of their own
 abbrev pub suffix_nodes : Option ℕ → SuffixTrees → ℕ

@@ -31,15 +31,15 @@ pub struct Around {
 
 impl Coder {
     ghost use Rattle.std.specs.Prelude.{length};
-    ghost use Rattle.obq_scope.specs.Coded.{captured, onto, taken};
+    ghost use Rattle.obq_scope.specs.Coded.{captured, emitter_with, past_captures};
     ghost use Rattle.obq_scope.specs.Coders.{after, around_of, begun, entered, finished, left};
     ghost use Rattle.obq_scope.specs.Narrowed.{found_slots, numbered};
-    ghost use Rattle.obq_scope.specs.Seen.{seen};
+    ghost use Rattle.obq_scope.specs.Outsides.{outside_of};
 
     /// Nothing is made yet, and no binder is in force. The lists are what the procedures to come
     /// capture.
     pub fn new(alloc: Global, source: u16, captures: Items<Items<Name>>) -> Coder
-        ensures outside { seen result.outside ≡ outermost source }
+        ensures outside { outside_of result.outside ≡ outermost source }
         ensures codes { result.emitter.output.codes ≡ [] }
         ensures nodes { result.emitter.output.nodes ≡ [] }
         ensures ahead { result.emitter.ahead ≡ captures }
@@ -57,15 +57,15 @@ impl Coder {
     }
 
     pub fn push(&mut self, node: Node) -> Result<(), NoMemory>
-        ensures { OnOk result (self.new ≡ after (λ o locals. onto node) self.old) }
+        ensures { OnOk result (self.new ≡ after (λ o locals. emitter_with node) self.old) }
     {
         self.emitter.push(node)
     }
 
     /// What the procedure, method or `let rec` that begins captures.
     pub fn take_captured(&mut self) -> Result<Binders, NoMemory>
-        ensures captured { IfOk result (λ names. names ≡ captured (seen self.old.outside) self.old.locals self.old.emitter) }
-        ensures taken { OnOk result (self.new ≡ after (λ o locals. taken) self.old) }
+        ensures captured { IfOk result (λ names. names ≡ captured (outside_of self.old.outside) self.old.locals self.old.emitter) }
+        ensures taken { OnOk result (self.new ≡ after (λ o locals. past_captures) self.old) }
     {
         let names = self.emitter.ahead.first();
         let captured = find_captured(self.alloc, &self.outside, &self.locals, names)?;
@@ -75,7 +75,7 @@ impl Coder {
 
     /// The slots of these names.
     pub fn slots(&self, names: &Binders) -> Result<Items<Slot>, NoMemory>
-        ensures { IfOk result (λ slots. slots ≡ found_slots (seen self.now.outside) self.now.locals names.now) }
+        ensures { IfOk result (λ slots. slots ≡ found_slots (outside_of self.now.outside) self.now.locals names.now) }
     {
         find_slots(self.alloc, &self.outside, &self.locals, names.as_slice())
     }

@@ -5,7 +5,7 @@ ghost use Rattle.obq_base.specs.View.{expr_tree, item_tree, suffix_tree, suffix_
 ghost use Rattle.obq_model.specs.Draft.{call_node, called_row};
 ghost use Rattle.obq_scope.specs.Coders.{after};
 ghost use Rattle.obq_scope.specs.Heads.{expr_head, item_head, suffix_head, suffix_nodes, with_head};
-ghost use Rattle.obq_scope.specs.Seen.{seen};
+ghost use Rattle.obq_scope.specs.Outsides.{outside_of};
 
 use crate::coder::Coder;
 use crate::counts::{
@@ -40,14 +40,14 @@ pub fn push_item_head(coder: &mut Coder, item: &Item) -> Result<(), NoMemory>
 
 /// The row of the built-in that such a head and suffixes call.
 pub fn find_called(coder: &Coder, head: &Expr, suffixes: &[Suffix]) -> Option<u32>
-    ensures { result ≡ called_row (seen coder.now.outside) coder.now.locals (expr_tree head.now) (suffix_trees suffixes.now) }
+    ensures { result ≡ called_row (outside_of coder.now.outside) coder.now.locals (expr_tree head.now) (suffix_trees suffixes.now) }
 {
     find_row(&coder.outside, &coder.locals, head, suffixes)
 }
 
 /// How many suffixes have nodes of their own.
 fn suffix_nodes(coder: &Coder, head: &Expr, suffixes: &[Suffix]) -> u32
-    ensures { result ≡ suffix_nodes (called_row (seen coder.now.outside) coder.now.locals (expr_tree head.now) (suffix_trees suffixes.now)) (suffix_trees suffixes.now) }
+    ensures { result ≡ suffix_nodes (called_row (outside_of coder.now.outside) coder.now.locals (expr_tree head.now) (suffix_trees suffixes.now)) (suffix_trees suffixes.now) }
 {
     match find_called(coder, head, suffixes) {
         None => suffixes_in(suffixes),

@@ -6,7 +6,7 @@ ghost use Rattle.obq_model.specs.Draft.{called_row, row_of_called};
 ghost use Rattle.obq_model.specs.Occurrences.{builtin_row};
 ghost use Rattle.obq_model.specs.Scopes.{is_covered};
 ghost use Rattle.obq_scope.specs.Narrowed.{found_slot, found_slots, narrowed};
-ghost use Rattle.obq_scope.specs.Seen.{seen};
+ghost use Rattle.obq_scope.specs.Outsides.{outside_of};
 
 use crate::outside::Outside;
 use obq_base::{Expr, Name, NoMemory, Slot, Suffix};
@@ -25,7 +25,7 @@ pub fn narrowed(number: usize) -> u32
 
 /// The slot of a name under the code's own binders.
 pub fn find_slot(outside: &Outside, locals: &Binders, name: &Name) -> Slot
-    ensures { result ≡ found_slot (seen outside.now) locals.now name.now }
+    ensures { result ≡ found_slot (outside_of outside.now) locals.now name.now }
 {
     if let Some(k) = locals.last_place(name) {
         return Slot::Local(narrowed(k));
@@ -41,7 +41,7 @@ pub fn find_slot(outside: &Outside, locals: &Binders, name: &Name) -> Slot
 
 /// Whether a binder covers the name.
 pub fn has_binder(outside: &Outside, locals: &Binders, name: &Name) -> bool
-    ensures { result ≡ is_covered (seen outside.now) locals.now name.now }
+    ensures { result ≡ is_covered (outside_of outside.now) locals.now name.now }
 {
     locals.contains(name) || outside.members.contains(name) || outside.captured.contains(name)
 }
@@ -53,7 +53,7 @@ pub fn find_captured(
     locals: &Binders,
     names: &[Name],
 ) -> Result<Binders, NoMemory>
-    ensures { IfOk result (λ covered. covered ≡ filter (is_covered (seen outside.now) locals.now) names.now) }
+    ensures { IfOk result (λ covered. covered ≡ filter (is_covered (outside_of outside.now) locals.now) names.now) }
 {
     let mut covered = Binders::new(alloc);
     for name in names {
@@ -71,7 +71,7 @@ pub fn find_slots(
     locals: &Binders,
     names: &[Name],
 ) -> Result<Items<Slot>, NoMemory>
-    ensures { IfOk result (λ slots. slots ≡ found_slots (seen outside.now) locals.now names.now) }
+    ensures { IfOk result (λ slots. slots ≡ found_slots (outside_of outside.now) locals.now names.now) }
 {
     let mut slots = Items::new(alloc);
     for name in names {
@@ -91,7 +91,7 @@ pub fn find_builtin(name: &Name) -> Option<u32>
 
 /// The row of the built-in that a call of this name calls.
 fn row_of_name(outside: &Outside, locals: &Binders, name: &Name) -> Option<u32>
-    ensures { result ≡ row_of_called (seen outside.now) locals.now name.now }
+    ensures { result ≡ row_of_called (outside_of outside.now) locals.now name.now }
 {
     if has_binder(outside, locals, name) {
         return None;
@@ -106,7 +106,7 @@ pub fn find_row(
     head: &Expr,
     suffixes: &[Suffix],
 ) -> Option<u32>
-    ensures { result ≡ called_row (seen outside.now) locals.now (expr_tree head.now) (suffix_trees suffixes.now) }
+    ensures { result ≡ called_row (outside_of outside.now) locals.now (expr_tree head.now) (suffix_trees suffixes.now) }
 {
     match head {
         Expr::Use { name, .. } => match suffixes.first() {

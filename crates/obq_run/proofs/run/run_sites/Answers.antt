@@ -8,7 +8,7 @@ use Rattle.obq_io.specs.Causes.{Rose}
 use Rattle.obq_journal.specs.Recording.{shown}
 use Rattle.obq_run.specs.Runs.{IsEndOf, IsRunOf, NotYetCompletes, RefusalCompletes, RunCompletes, RunsOf, TooLongCompletes, one_ended}
 use Rattle.obq_words.specs.Words.{names_of, paths_of}
-use Rattle.obq_run.proofs.Unruns.{on_write_fault}
+use Rattle.obq_run.proofs.RunRefusals.{on_write_fault}
 use Rattle.obq_run.proofs.Complete.{not_yet_finished, not_yet_refused, run_refused}
 use Rattle.obq_run.proofs.Refusals.{refusal_finished, refusal_refused, too_long_finished, too_long_refused}
 use Rattle.obq_run.proofs.Held.{held_length}

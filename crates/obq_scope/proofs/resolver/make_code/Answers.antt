@@ -7,7 +7,7 @@ use Rattle.obq_scope.specs.declared.output.Output.{Output}
 use Rattle.obq_scope.specs.Coded.{coded_block, inner}
 use Rattle.obq_scope.specs.Emitted.{closed, emitted, opened}
 use Rattle.obq_scope.specs.Narrowed.{narrowed, numbered}
-use Rattle.obq_scope.specs.Seen.{seen}
+use Rattle.obq_scope.specs.Outsides.{outside_of}
 use Rattle.obq_scope.proofs.Coding.{codes_source}
 use Rattle.obq_scope.proofs.Resolving.{resolves}
 use Rattle.obq_scope.proofs.Rooms.{narrow_at}
@@ -18,7 +18,7 @@ returns c =
     let source = c.args.source in
     let tree = block_tree c.args.block.now in
     let first = c.new-coder.result.emitter in
-    let known : seen c.new-coder.result.outside ≡ outermost source = c.new-coder.ensures.outside in
+    let known : outside_of c.new-coder.result.outside ≡ outermost source = c.new-coder.ensures.outside in
     let last : Output = emitted source (draft_block (outermost source) [] tree) (opened first.output) in
     let made = codes_source source tree (opened first.output) first.ahead (c.new-coder.ensures.ahead ∙ c.requires.captured) c.new-coder.ensures.codes c.requires.small in
     let coded : (coded_block (outermost source) [] tree (inner first)).output ≡ last = made.0 in
