@@ -1,18 +1,21 @@
 -- A part that begins: nodes and trees do the same.
 use Rattle.std.specs.Prelude.{Bool, List, None, Option, Some, [], codes, false, if◌then◌else◌, nat_lt, refl, slice_get, suc, true, ℕ, ◌∷◌, ◌≡◌}
-use Rattle.std.proofs.Common.{inl, inr, subst, sym}
 use Rattle.obq_base.specs.declared.code.Node.TheVariants as n
+use Rattle.std.proofs.Common.{inl, inr, subst, sym}
 use Rattle.obq_base.specs.Tree.{ABlock, ALink, AProc, ASuffix, AnArm, ApplySuffix, ArmTrees, ArrayTree, BlockTree, ChainTree, CloneTree, ExitTree, ExprTree, FinallyTree, ForTree, ForeachTree, IfTree, IndexSuffix, IntTree, InvokeSuffix, LinkTrees, LoopTree, MaybeBlock, NameTree, NoArms, NoBlock, NoLinks, NoSuffixes, ObjectTree, OkTree, ProcTree, RaiseTree, RedirectTree, SelectSuffix, SuffixTrees, SuffixedTree, TextTree, TruthTree, TryTree, WatchTree}
 use Rattle.obq_base.specs.declared.code.CodeNo.{CodeNo}
 use Rattle.obq_base.specs.declared.code.Node.{Node}
+use Rattle.obq_base.specs.declared.limits.TheConstants.{CLOSURE_LIMIT}
 use Rattle.obq_model.specs.CodeLaws.{nodes_of}
 use Rattle.obq_model.specs.Depth.{is_too_deep}
 use Rattle.obq_model.specs.Draft.{Both, Plain, behind_first, called_row, captured_by, count_arms, count_exprs, count_suffixes, draft_arms, draft_expr, draft_maybe, draft_suffixes, field_names, has_block, operators_of}
 use Rattle.obq_model.specs.Occurrences.{free_procedure}
 use Rattle.obq_model.specs.Opened.{open_block}
+use Rattle.obq_model.specs.Procedures.{Proc}
 use Rattle.obq_model.specs.Reading.{hide, read}
 use Rattle.obq_model.specs.Scopes.{Outside, inside, slot_of, slots_of}
-use Rattle.obq_model.specs.Terms.{Bytes, ExitUp}
+use Rattle.obq_model.specs.Step.{SetItem}
+use Rattle.obq_model.specs.Terms.{Array, Assign, Builtin, Bytes, Clone, Exit, ExitUp, Finally, For, Foreach, Int, Let, LetRec, Loop, Object, Okay, Raise, Redirect, Truth, Try, Var, Watch}
 use Rattle.obq_model.proofs.Among.{true_false}
 use Rattle.obq_model.proofs.Drafted.{drafted_block, drafted_expr, drafted_suffix}
 use Rattle.obq_model.proofs.Finds.{row_called}
@@ -25,7 +28,6 @@ use Rattle.obq_windows.specs.Windows.{Activation, NodeChain, NodeFirst, NodeFram
 use Rattle.obq_windows.proofs.AlikeCalls.{args_alike}
 use Rattle.obq_windows.proofs.Lists.{item_here}
 use Rattle.obq_windows.proofs.Slots.{alike, behind_none, capture_is, first_of, name_alike, next_here, node_here, not_above, regrouped, second_of}
-use Rattle.obq_base.specs.declared.limits.TheConstants.{CLOSURE_LIMIT}
 
 -- the rest of the arms of an `if`
 pub arms_alike : {R : Type 0} → (T : Table R) (S : Store R) → Agrees T S → (tag : Tag R) (act : Activation R) (b : ℕ) (bound : List (Bound R)) → IsBound act b bound → (ns : List (NodeFrame R)) (fs : List (TreeFrame R)) → FramesAre T S act b ns fs → (at : ℕ) (arms : ArmTrees) (last : MaybeBlock)

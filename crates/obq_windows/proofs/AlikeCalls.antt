@@ -1,6 +1,6 @@
 -- Calls: nodes and trees do the same.
 use Rattle.std.specs.Prelude.{Bool, List, None, Option, Some, [], codes, false, if◌then◌else◌, length, refl, slice_get, suc, take, true, zero, ℕ, ◌==◌, ◌∷◌, ◌≡◌, ◌≤◌}
-use Rattle.std.proofs.Common.{inl, subst, ap, sym, ◌∙◌, arith}
+use Rattle.std.proofs.Common.{ap, arith, inl, subst, sym, ◌∙◌}
 use Rattle.obq_base.specs.Tree.{AnExpr, ExprTrees, NoExprs}
 use Rattle.obq_base.specs.declared.code.Code.{Code}
 use Rattle.obq_base.specs.declared.code.CodeNo.{CodeNo}
@@ -10,17 +10,17 @@ use Rattle.obq_model.specs.Draft.{count_exprs, draft_block, draft_exprs}
 use Rattle.obq_model.specs.Opened.{builtin_at}
 use Rattle.obq_model.specs.Procedures.{Proc}
 use Rattle.obq_model.specs.Resolved.{IsCode}
+use Rattle.obq_model.specs.Step.{is_call_limit}
 use Rattle.obq_model.specs.Terms.{Array, Bytes, Condition, Engine, Object, Variable, Writer}
 use Rattle.obq_model.proofs.Drafted.{drafted_expr}
 use Rattle.obq_windows.specs.Agrees.{Agrees, FramesAre, IsBound, Same, StandsAt, place_at}
-use Rattle.obq_windows.specs.Trees.{Asks, Beyond, BlockTask, Bound, Callee, Does, ExprTask, Gives, PendingArguments, PendingCalled, PlainResult, Raises, Silent, Stepped, ToArray, ToBuiltin, ToCall, ToIndex, ToInvoke, TreeFrame, TreeRun, TreeValue, applied, array_made, begin_args, bound_names, bound_values, call_code, call_plain, entered, finish_args, indexed, invoked, outside_at, place_of, proc_outside, push, tree_moved, tree_raises, tree_result, zipped}
+use Rattle.obq_windows.specs.Trees.{Asks, Beyond, BlockTask, Bound, Callee, Does, ExprTask, Gives, PendingArguments, PendingCalled, PlainResult, Raises, Silent, Stepped, ToArray, ToBuiltin, ToCall, ToIndex, ToInvoke, TreeAct, TreeFrame, TreeHere, TreeRun, TreeValue, applied, array_made, begin_args, bound_names, bound_values, call_code, call_plain, entered, finish_args, indexed, invoked, outside_at, place_of, proc_outside, push, tree_moved, tree_raises, tree_result, zipped}
 use Rattle.obq_windows.specs.Values.{ClosureValue, ExceptionValue, IntValue, LocationValue, OkayValue, PlainValue, PlainValues, Table, TextValue, ThreadValue, TruthValue}
-use Rattle.obq_windows.specs.Windows.{Activation, NodeArguments, NodeCalled, NodeFrame, NodeRun, NodeValue, Store, activation_of, args_node, call_node_code, call_node_plain, enter_code, finish_node, node_moved, node_raises, node_result}
+use Rattle.obq_windows.specs.Windows.{Activation, NodeAct, NodeArguments, NodeCalled, NodeFrame, NodeHere, NodeRun, NodeValue, Store, activation_of, args_node, call_node_code, call_node_plain, enter_code, finish_node, node_moved, node_raises, node_result}
 use Rattle.obq_windows.proofs.Calls.{same_length}
 use Rattle.obq_windows.proofs.Envs.{zipped_names}
 use Rattle.obq_windows.proofs.Frames.{frames_up, length_values}
 use Rattle.obq_windows.proofs.Slots.{alike, first_of, not_above, second_of}
-use Rattle.obq_model.specs.Step.{is_call_limit}
 
 zipped_values : {R : Type 0} → (xs : List Bytes) (vs : List (PlainValue R)) → length xs ≡ length vs → take (length vs) vs ≡ bound_values (zipped xs vs)
 zipped_values [] [] e = refl
@@ -110,7 +110,7 @@ call_alike T S g a act b bound w ns fs fr (ThreadValue z) vs = alike T S Stepped
 pub result_alike : {R : Type 0} → (T : Table R) (S : Store R) (act : Activation R) (b : ℕ) (ns : List (NodeFrame R)) (fs : List (TreeFrame R)) → FramesAre T S act b ns fs → (r : PlainResult R) → Same T S (node_result r act ns) (tree_result r fs)
 result_alike T S act b ns fs fr (Gives v) = alike T S Stepped act b ns (NodeValue v) fs (TreeValue v) fr refl
 result_alike T S act b ns fs fr (Raises e) = alike T S Stepped act b ns (node_raises e) fs (tree_raises e) fr refl
-result_alike T S act b ns fs fr (Does op) = alike T S (Asks op) act b ns (NodeValue OkayValue) fs (TreeValue OkayValue) fr refl
+result_alike T S act b ns fs fr (Does op) = alike T S (Asks op) act b ns (NodeAct op NodeHere) fs (TreeAct op TreeHere) fr (NodeHere, refl, refl)
 result_alike T S act b ns fs fr Beyond = inl (refl, refl)
 
 finish_alike : {R : Type 0} → (T : Table R) (S : Store R) → Agrees T S → (a : ℕ) (act : Activation R) (b : ℕ) (bound : List (Bound R)) → IsBound act b bound → (ns : List (NodeFrame R)) (fs : List (TreeFrame R)) → FramesAre T S act b ns fs → (callee : Callee R) (vs : List (PlainValue R))

@@ -1,19 +1,19 @@
 -- A value, and a raising, in a frame: nodes and trees do the same.
 use Rattle.std.specs.Prelude.{Bool, List, None, Option, Some, [], bytes_eq, codes, drop, false, if◌then◌else◌, int_lt, refl, slice_get, suc, true, ℕ, ℤ, ◌++◌, ◌+◌, ◌∷◌, ◌≡◌, ◌≤◌}
-use Rattle.std.proofs.Common.{subst, sym, arith}
 use Rattle.obq_base.specs.declared.code.Node.TheVariants as n
+use Rattle.std.proofs.Common.{arith, subst, sym}
 use Rattle.obq_base.specs.Tree.{ALink, AnArm, AnExpr, ApplySuffix, ArmTrees, BindTrees, BlockTree, ExprTree, IndexSuffix, InvokeSuffix, ItemTrees, LinkTrees, MaybeBlock, NoArms, NoExprs, NoLinks, SelectSuffix, SuffixTree, SuffixTrees}
 use Rattle.obq_base.specs.declared.code.CodeNo.{CodeNo}
 use Rattle.obq_base.specs.declared.code.Node.{Node}
 use Rattle.obq_base.specs.declared.trees.Operator.{Operator}
 use Rattle.obq_model.specs.Draft.{Both, Done, Draft, count_arms, count_binds, count_exprs, count_items, count_suffixes, draft_arms, draft_binds, draft_block, draft_expr, draft_items, draft_links, draft_maybe, draft_suffix, draft_suffixes, has_block, operators_of}
 use Rattle.obq_model.specs.Occurrences.{bind_names}
-use Rattle.obq_model.specs.Terms.{Array, Bytes, Condition, Engine, Object, Variable, Writer}
+use Rattle.obq_model.specs.Terms.{Apply, Array, Bytes, Condition, Engine, Index, Invoke, Object, Select, Variable, Writer}
 use Rattle.obq_model.proofs.Drafted.{drafted_block, drafted_expr, drafted_suffix}
-use Rattle.obq_windows.specs.Agrees.{Agrees, FramesAre, IsBound, Same, StandsAt, place_at}
-use Rattle.obq_windows.specs.Trees.{Asks, BlockTask, Bound, ExprTask, PendingChain, PendingCount, PendingGuard, PendingRight, PlainGet, Silent, Stepped, ToCall, ToIndex, ToInvoke, TreeFrame, TreeRun, TreeUnmet, TreeValue, begin_arms, begin_binds, begin_count, bind_of, bound_names, give_and, give_guard, give_if, give_left, give_or, give_raise, give_suffix, give_to, outside_at, push, tree_moved, tree_raises, with_bound, with_links, with_suffixes}
+use Rattle.obq_windows.specs.Agrees.{AfterIs, Agrees, FramesAre, IsBound, Same, StandsAt, place_at}
+use Rattle.obq_windows.specs.Trees.{Asks, BlockTask, Bound, ExprTask, Kept, KeptRaising, KeptValue, PendingChain, PendingCount, PendingGuard, PendingRight, PlainGet, PlainOperation, Silent, Stepped, ToCall, ToIndex, ToInvoke, TreeAct, TreeAfter, TreeFrame, TreeHere, TreeRaising, TreeRun, TreeUnmet, TreeValue, begin_arms, begin_binds, begin_count, bind_of, bound_names, give_and, give_guard, give_if, give_left, give_or, give_raise, give_suffix, give_to, outside_at, push, tree_act, tree_moved, tree_raises, with_bound, with_links, with_suffixes}
 use Rattle.obq_windows.specs.Values.{ClosureValue, ExceptionValue, IntValue, LocationValue, OkayValue, PlainValue, Table, TextValue, ThreadValue, TruthValue}
-use Rattle.obq_windows.specs.Windows.{Activation, NodeChain, NodeCount, NodeFrame, NodeGuard, NodeRight, NodeRun, NodeUnmet, NodeValue, Store, bind, binds_node, count_node, give_node_and, give_node_guard, give_node_if, give_node_left, give_node_or, give_node_raise, give_node_suffix, give_node_to, guards_node, node_at, node_moved, node_raises, operator_in, with_operator, with_suffix}
+use Rattle.obq_windows.specs.Windows.{Activation, NodeAct, NodeAfter, NodeChain, NodeCount, NodeFrame, NodeGuard, NodeHere, NodeRaising, NodeRight, NodeRun, NodeUnmet, NodeValue, Store, act_node, bind, binds_node, count_node, give_node_and, give_node_guard, give_node_if, give_node_left, give_node_or, give_node_raise, give_node_suffix, give_node_to, guards_node, node_at, node_moved, node_raises, operator_in, with_operator, with_suffix}
 use Rattle.obq_windows.proofs.Alike.{arms_alike, at_node, suffix_frames}
 use Rattle.obq_windows.proofs.AlikeCalls.{args_alike}
 use Rattle.obq_windows.proofs.AlikeItems.{binds_alike, respelled}
@@ -147,7 +147,12 @@ select_alike T S a act b bound ns2 fs ss fr at x place (LocationValue Variable z
 select_alike T S a act b bound ns2 fs ss fr at x place (LocationValue Writer z) = alike T S Stepped act b ns2 (node_raises (codes "type")) (with_suffixes (place_at act bound) ss fs) (tree_raises (codes "type")) fr refl
 select_alike T S a act b bound ns2 fs ss fr at x place (LocationValue Condition z) = alike T S Stepped act b ns2 (node_raises (codes "type")) (with_suffixes (place_at act bound) ss fs) (tree_raises (codes "type")) fr refl
 select_alike T S a act b bound ns2 fs ss fr at x place (LocationValue Engine z) = alike T S Stepped act b ns2 (node_raises (codes "type")) (with_suffixes (place_at act bound) ss fs) (tree_raises (codes "type")) fr refl
-select_alike T S a act b bound ns2 fs ss fr at x place (LocationValue Object z) = alike T S (Asks (PlainGet z x)) act b ns2 (NodeValue OkayValue) (with_suffixes (place_at act bound) ss fs) (TreeValue OkayValue) fr refl
+select_alike T S a act b bound ns2 fs ss fr at x place (LocationValue Object z) = alike T S (Asks (PlainGet z x)) act b ns2 (NodeAct (PlainGet z x) NodeHere) (with_suffixes (place_at act bound) ss fs) (TreeAct (PlainGet z x) TreeHere) fr (NodeHere, refl, refl)
+
+pub act_alike : {R : Type 0} → (T : Table R) (S : Store R) (act : Activation R) (b : ℕ) (ns : List (NodeFrame R)) (fs : List (TreeFrame R)) → FramesAre T S act b ns fs → (na : NodeAfter) (after : TreeAfter R) → AfterIs T S act b na after → (op : PlainOperation R) (o : Option (Kept R)) → Same T S (act_node o op na act ns) (tree_act o op after fs)
+act_alike T S act b ns fs fr na after h op None = alike T S (Asks op) act b ns (NodeAct op na) fs (TreeAct op after) fr (na, refl, h)
+act_alike T S act b ns fs fr na after h op (Some (KeptValue v)) = alike T S Stepped act b ns (NodeValue v) fs (TreeValue v) fr refl
+act_alike T S act b ns fs fr na after h op (Some (KeptRaising r)) = alike T S Stepped act b ns (NodeRaising r) fs (TreeRaising r) fr refl
 
 -- an expression as a list of one
 alone : {R : Type 0} (T : Table R) (S : Store R) {number : CodeNo} {d : Draft} {at : ℕ} → StandsAt T S number d at → StandsAt T S number (Both d Done) at

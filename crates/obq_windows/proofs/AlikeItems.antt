@@ -1,17 +1,19 @@
 -- Items and blocks that begin, and values in frames: nodes and trees do the same.
 use Rattle.std.specs.Prelude.{Bool, List, [], codes, false, if◌then◌else◌, length, nat_lt, refl, suc, true, ℕ, ◌++◌, ◌+◌, ◌∷◌, ◌≡◌, ◌≤◌}
+use Rattle.obq_base.specs.declared.code.Node.TheVariants as n
 use Rattle.std.proofs.Common.{ap, arith, inl, inr, subst, sym, ◌∙◌}
 use Rattle.std.proofs.lemmas.List.{append-nil, append_assoc}
-use Rattle.obq_base.specs.declared.code.Node.TheVariants as n
 use Rattle.obq_base.specs.Tree.{ABind, ARecBind, AnItem, AssignItem, BindTrees, BlockOf, BlockTree, ExprTree, FieldItem, IndexItem, ItemTree, ItemTrees, LetItem, LetRecItem, NoBinds, NoItems, NoRecBinds, PlainItem, RecBindTrees, VarItem}
 use Rattle.obq_base.specs.declared.code.CodeNo.{CodeNo}
+use Rattle.obq_base.specs.declared.limits.TheConstants.{CLOSURE_LIMIT}
 use Rattle.obq_model.specs.CodeLaws.{nodes_of}
 use Rattle.obq_model.specs.Depth.{deepest_of}
 use Rattle.obq_model.specs.Draft.{Draft, captured_by_group, count_binds, count_items, draft_binds, draft_block, draft_items}
 use Rattle.obq_model.specs.Occurrences.{bind_names, free_members, member_names}
 use Rattle.obq_model.specs.Procedures.{AreMembers}
 use Rattle.obq_model.specs.Scopes.{Outside, inside, slot_of, slots_of}
-use Rattle.obq_model.specs.Terms.{Bytes}
+use Rattle.obq_model.specs.Step.{SetItem}
+use Rattle.obq_model.specs.Terms.{Assign, Bytes, Let, LetRec, Var}
 use Rattle.obq_model.proofs.Drafted.{drafted_expr, drafted_item}
 use Rattle.obq_model.proofs.Occurring.{captured_covered}
 use Rattle.obq_windows.specs.Agrees.{Agrees, FramesAre, IsBound, Same, StandsAt, place_at}
@@ -24,7 +26,6 @@ use Rattle.obq_windows.proofs.Closing.{member_bound_names, names_append}
 use Rattle.obq_windows.proofs.Frames.{bound_all, frames_kept, frames_up}
 use Rattle.obq_windows.proofs.Lists.{item_here}
 use Rattle.obq_windows.proofs.Slots.{alike, capture_is, first_of, next_here, node_here, not_above, second_of}
-use Rattle.obq_base.specs.declared.limits.TheConstants.{CLOSURE_LIMIT}
 
 -- ---- items
 

@@ -1,6 +1,6 @@
 -- The frames of a window around a part of it: from what stands next in the part to what stands next in the whole.
-use Rattle.std.specs.Prelude.{Bool, List, T, [], false, nat_lt, refl, suc, true, zero, ℕ, ◌++◌, ◌≤◌, ◌∷◌, ◌≡◌}
-use Rattle.std.proofs.Common.{subst, ap, sym, ◌∙◌, arith}
+use Rattle.std.specs.Prelude.{Bool, List, T, [], false, nat_lt, refl, suc, true, zero, ℕ, ◌++◌, ◌∷◌, ◌≡◌, ◌≤◌}
+use Rattle.std.proofs.Common.{ap, arith, subst, sym, ◌∙◌}
 use Rattle.std.proofs.lemmas.List.{append-nil}
 use Rattle.obq_base.specs.Tree.{ALink, ASuffix, ApplySuffix, ExprTree, ExprTrees, IndexSuffix, InvokeSuffix, LinkTrees, NoLinks, NoSuffixes, SelectSuffix, SuffixTree, SuffixTrees}
 use Rattle.obq_base.specs.declared.trees.Operator.{Operator}
@@ -12,7 +12,7 @@ use Rattle.obq_model.specs.Step.{Found, Frame, Needs, Next, Pending, Self, activ
 use Rattle.obq_model.specs.Terms.{Called, Choosing, Counting, End, Finally, Finishing, For, Form, If, Kind, Let, Looping, Part, Parts, Raise, Term, Then, Try}
 use Rattle.obq_model.proofs.Plug.{frames_append, needs_plug, plug_append, step_plug}
 use Rattle.obq_windows.specs.Meanings.{Means, Moves}
-use Rattle.obq_windows.specs.Trees.{Asks, Callee, PendingArguments, PendingCalled, PendingChain, PendingCount, PendingFirst, PendingForm, PendingGuard, PendingHead, PendingIf, PendingKept, PendingLast, PendingLet, PendingLoop, PendingRaise, PendingRight, PendingThen, PendingTo, PendingTry, Place, PlainOperation, Silent, Stepped, Tag, ToArray, ToBuiltin, ToCall, ToIndex, ToInvoke, TreeFocus, TreeFrame, TreeMoved, callee_frame, env_at, expr_at, exprs_at, focus_term, frames_of, link_frame, linked_kind, links_around, names_at, outside_at, pending_frames, push, read_operation, suffix_frame, suffixes_around, term_of, tree_moved, with_links, with_suffixes, writer_at}
+use Rattle.obq_windows.specs.Trees.{Asks, Callee, PendingArguments, PendingCalled, PendingChain, PendingCount, PendingFirst, PendingForm, PendingGuard, PendingHead, PendingIf, PendingKept, PendingLast, PendingLet, PendingLoop, PendingRaise, PendingRight, PendingThen, PendingTo, PendingTry, Place, PlainOperation, Silent, Stepped, Tag, ToArray, ToBuiltin, ToCall, ToIndex, ToInvoke, TreeAct, TreeAfter, TreeFocus, TreeFrame, TreeMoved, callee_frame, env_at, expr_at, exprs_at, focus_term, frames_of, link_frame, linked_kind, links_around, names_at, outside_at, pending_frames, push, read_operation, scope_after, suffix_frame, suffixes_around, term_of, tree_moved, with_links, with_suffixes, writer_at}
 use Rattle.obq_windows.specs.Values.{PlainValue, Table}
 
 -- a frame whose hole is its first part
@@ -118,8 +118,8 @@ to_here eq T a s fs t focus h = step_plug eq a s (frames_of T fs) t (focus_term 
 pub to_pushed : {R : Type 0} → (eq : R → R → Bool) (T : Table R) (a : ℕ) (s : Self R) (fs : List (TreeFrame R)) (t : Term R) (p : Place R) (pending : PendingForm R) (focus : TreeFocus R) → found_in eq T a s fs t ≡ Next (plug (pending_frames T p pending) (focus_term T focus)) → Moves eq T a s (plug (frames_of T fs) t) (tree_moved Stepped (push p pending fs) focus)
 to_pushed eq T a s fs t p pending focus h = stepped eq T a s fs t _ (tree_moved Stepped (push p pending fs) focus) h (record { tag_is = refl; leads = pushed T fs p pending focus _ refl })
 
-pub asks : {R : Type 0} → (eq : R → R → Bool) (T : Table R) (a : ℕ) (s : Self R) (fs : List (TreeFrame R)) (t : Term R) (op : PlainOperation R) (focus : TreeFocus R) → found_in eq T a s fs t ≡ Needs (read_operation T op) [] → Moves eq T a s (plug (frames_of T fs) t) (tree_moved (Asks op) fs focus)
-asks eq T a s fs t op focus h = needs_plug eq a s (frames_of T fs) t (read_operation T op) [] (are_frames T fs) h ∙ ap (Needs (read_operation T op)) (append-nil (frames_of T fs))
+pub asks : {R : Type 0} → (eq : R → R → Bool) (T : Table R) (a : ℕ) (s : Self R) (fs : List (TreeFrame R)) (t : Term R) (op : PlainOperation R) (after : TreeAfter R) → found_in eq T a s fs t ≡ Needs (read_operation T op (scope_after T after)) [] → Moves eq T a s (plug (frames_of T fs) t) (tree_moved (Asks op) fs (TreeAct op after))
+asks eq T a s fs t op after h = (after, refl, needs_plug eq a s (frames_of T fs) t (read_operation T op (scope_after T after)) [] (are_frames T fs) h ∙ ap (Needs (read_operation T op (scope_after T after))) (append-nil (frames_of T fs)))
 
 -- ---- chains
 

@@ -1,8 +1,9 @@
 -- A part that begins to run, and calls whose arguments are there.
 use Rattle.std.specs.Prelude.{Bool, List, None, Option, Some, [], codes, false, if◌then◌else◌, length, nat_lt, refl, slice_get, suc, true, ℕ, ◌&&◌, ◌==◌, ◌∷◌, ◌≡◌}
-use Rattle.std.proofs.Common.{subst, ap, sym, ◌∙◌}
+use Rattle.std.proofs.Common.{ap, subst, sym, ◌∙◌}
 use Rattle.obq_base.specs.Tree.{ALink, ASuffix, AnExpr, ApplySuffix, ExprTrees, IndexSuffix, InvokeSuffix, LinkTrees, NoExprs, NoLinks, NoSuffixes, SelectSuffix, SuffixTree, SuffixTrees}
 use Rattle.obq_base.specs.declared.code.CodeNo.{CodeNo}
+use Rattle.obq_base.specs.declared.limits.TheConstants.{ARRAY_LIMIT}
 use Rattle.obq_base.specs.declared.trees.Operator.{Operator}
 use Rattle.obq_model.specs.Builtins.{arity_of_builtin}
 use Rattle.obq_model.specs.Exceptions.{arity, array_limit, call_limit, raise}
@@ -12,13 +13,12 @@ use Rattle.obq_model.specs.Store.{ArrayCell}
 use Rattle.obq_model.specs.Terms.{Apply, Array, Bytes, Call, Condition, End, Engine, Form, Index, Invoke, MakeArray, Object, Part, Parts, Term, Variable, Writer}
 use Rattle.obq_model.proofs.Plug.{activations_append, operands}
 use Rattle.obq_windows.specs.Meanings.{Moves}
-use Rattle.obq_windows.specs.Trees.{Beyond, Callee, Does, ExprTask, Gives, PendingArguments, PendingCalled, PendingChain, PendingCount, PendingFirst, PendingForm, PendingGuard, PendingHead, PendingIf, PendingKept, PendingLast, PendingLet, PendingLoop, PendingRaise, PendingRight, PendingThen, PendingTo, PendingTry, Place, PlainInvoke, PlainNewArray, PlainResult, Raises, Silent, Stepped, ToArray, ToBuiltin, ToCall, ToIndex, ToInvoke, TreeFrame, TreeMoved, TreeRun, TreeValue, applied, array_made, begin_args, call_code, call_plain, callee_frame, count_activations, expr_at, exprs_at, finish_args, frames_of, indexed, invoked, is_activation, link_frame, links_around, pending_frames, push, suffix_frame, suffixes_around, tree_moved, tree_raises, tree_result, with_suffixes}
+use Rattle.obq_windows.specs.Trees.{Beyond, Callee, Does, ExprTask, Gives, PendingArguments, PendingCalled, PendingChain, PendingCount, PendingFirst, PendingForm, PendingGuard, PendingHead, PendingIf, PendingKept, PendingLast, PendingLet, PendingLoop, PendingRaise, PendingRight, PendingThen, PendingTo, PendingTry, Place, PlainInvoke, PlainNewArray, PlainResult, Raises, Silent, Stepped, ToArray, ToBuiltin, ToCall, ToIndex, ToInvoke, TreeFrame, TreeHere, TreeMoved, TreeRun, TreeValue, applied, array_made, begin_args, call_code, call_plain, callee_frame, count_activations, expr_at, exprs_at, finish_args, frames_of, indexed, invoked, is_activation, link_frame, links_around, pending_frames, push, suffix_frame, suffixes_around, tree_moved, tree_raises, tree_result, with_suffixes}
 use Rattle.obq_windows.specs.Values.{ClosureValue, ExceptionValue, IntValue, IsMadeTable, LocationValue, OkayValue, PlainValue, Table, TextValue, ThreadValue, TruthValue, closure_of, proc_named, proc_of, read_all, read_value, read_values}
 use Rattle.obq_windows.proofs.Around.{asks, found_in, pushed, silent, to_here}
+use Rattle.obq_windows.proofs.BuiltIns.{applied_is}
 use Rattle.obq_windows.proofs.Calls.{callable, entered_right}
 use Rattle.obq_windows.proofs.Results.{ResultIs, closure_cases}
-use Rattle.obq_windows.proofs.BuiltIns.{applied_is}
-use Rattle.obq_base.specs.declared.limits.TheConstants.{ARRAY_LIMIT}
 
 -- the same of a term that is spelled in another way
 pub of_term : {R : Type 0} → (eq : R → R → Bool) (T : Table R) (a : ℕ) (s : Self R) (t u : Term R) (m : TreeMoved R) → t ≡ u → Moves eq T a s u m → Moves eq T a s t m
@@ -107,10 +107,10 @@ call_right eq T a s w fs t (ThreadValue n) p vs h = to_here eq T a s fs t (tree_
 pub result_right : {R : Type 0} → (eq : R → R → Bool) (T : Table R) (a : ℕ) (s : Self R) (fs : List (TreeFrame R)) (t : Term R) (found : Found R) (r : PlainResult R) → found_in eq T a s fs t ≡ found → ResultIs T found r → Moves eq T a s (plug (frames_of T fs) t) (tree_result r fs)
 result_right eq T a s fs t found (Gives v) e h = to_here eq T a s fs t (TreeValue v) (e ∙ h)
 result_right eq T a s fs t found (Raises x) e h = to_here eq T a s fs t (tree_raises x) (e ∙ h)
-result_right eq T a s fs t found (Does op) e h = asks eq T a s fs t op (TreeValue OkayValue) (e ∙ h)
+result_right eq T a s fs t found (Does op) e h = asks eq T a s fs t op TreeHere (e ∙ h)
 result_right eq T a s fs t found Beyond e h = tt
 
-length_read : {R : Type 0} → (T : Table R) (vs : List (PlainValue R)) → length (read_all T vs) ≡ length vs
+pub length_read : {R : Type 0} → (T : Table R) (vs : List (PlainValue R)) → length (read_all T vs) ≡ length vs
 length_read T [] = refl
 length_read T (v ∷ vs) = ap suc (length_read T vs)
 

@@ -1,9 +1,10 @@
 -- A closure that is made: what it captures is what its body reads.
 use Rattle.std.specs.Prelude.{Bool, List, None, Option, Some, [], bytes_eq, codes, drop, false, if◌then◌else◌, is_some, nat_lt, option_map, refl, suc, true, ℕ, ◌++◌, ◌||◌, ◌∷◌, ◌≡◌}
-use Rattle.std.proofs.lemmas.Slice.Eq.{bytes_eq-Decides}
 use Rattle.std.proofs.Common.{ap, sym, ◌∙◌}
+use Rattle.std.proofs.lemmas.Slice.Eq.{bytes_eq-Decides}
 use Rattle.obq_base.specs.Tree.{AProc, ARecBind, AnItem, ItemTrees, LetRecItem, NoItems, NoRecBinds, ProcTree, ProcedureTree, RecBindTrees}
 use Rattle.obq_base.specs.declared.code.CodeNo.{CodeNo}
+use Rattle.obq_base.specs.declared.limits.TheConstants.{CLOSURE_LIMIT}
 use Rattle.obq_base.specs.declared.occurrences.Occurrence.{Occurrence}
 use Rattle.obq_model.specs.Depth.{deepest_of, is_too_deep}
 use Rattle.obq_model.specs.Draft.{captured_by, captured_by_group}
@@ -27,7 +28,6 @@ use Rattle.obq_windows.proofs.Around.{Starts, here, stepped, to_here}
 use Rattle.obq_windows.proofs.Calls.{members_none, members_some}
 use Rattle.obq_windows.proofs.Envs.{fun_eq, others}
 use Rattle.obq_windows.proofs.Lists.{behind_here, item_here}
-use Rattle.obq_base.specs.declared.limits.TheConstants.{CLOSURE_LIMIT}
 
 -- ---- what is covered has a value
 

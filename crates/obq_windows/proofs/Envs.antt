@@ -1,6 +1,6 @@
 -- Names in force, with their values: what binding, entering and capturing do to the environment that a place reads with.
-use Rattle.std.specs.Prelude.{Bool, List, None, Option, Some, T, [], bytes_eq, false, if◌then◌else◌, is_some, length, option_map, refl, suc, true, ℕ, ◌++◌, ◌+◌, ◌∷◌, ◌≡◌, ◌||◌}
-use Rattle.std.proofs.Common.{ap, sym, ◌∙◌, arith}
+use Rattle.std.specs.Prelude.{Bool, List, None, Option, Some, T, [], bytes_eq, false, if◌then◌else◌, is_some, length, option_map, refl, suc, true, ℕ, ◌++◌, ◌+◌, ◌||◌, ◌∷◌, ◌≡◌}
+use Rattle.std.proofs.Common.{ap, arith, sym, ◌∙◌}
 use Rattle.obq_model.specs.Put.{among}
 use Rattle.obq_model.specs.Reading.{Env, also, hide, or_some, with_all}
 use Rattle.obq_model.specs.Scopes.{Outside, last_place, last_place_from}

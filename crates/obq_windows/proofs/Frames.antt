@@ -1,8 +1,9 @@
 -- Frames with more binders in force behind them, and under more values.
 use Rattle.std.specs.Prelude.{List, [], length, refl, suc, take, zero, ℕ, ◌++◌, ◌+◌, ◌∷◌, ◌≡◌, ◌≤◌, ◌⊎◌}
-use Rattle.std.proofs.lemmas.List.{take_all}
 use Rattle.std.proofs.Common.{ap, arith, inl, inr, length-append, subst, sym, ◌∙◌}
+use Rattle.std.proofs.lemmas.List.{take_all}
 use Rattle.obq_base.specs.Tree.{AnItem, NoItems}
+use Rattle.obq_model.specs.Effect.{kept}
 use Rattle.obq_windows.specs.Agrees.{FrameIs, FramesAre, IsBound, PlaceIs, act_behind, height_behind}
 use Rattle.obq_windows.specs.Trees.{Bound, PendingArguments, PendingCalled, PendingChain, PendingCount, PendingFirst, PendingForm, PendingGuard, PendingHead, PendingIf, PendingKept, PendingLast, PendingLet, PendingLoop, PendingRaise, PendingRight, PendingThen, PendingTo, PendingTry, Place, TreeFrame, bound_values}
 use Rattle.obq_windows.specs.Values.{PlainValue, Table}

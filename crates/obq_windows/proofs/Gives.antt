@@ -1,5 +1,5 @@
 -- A value in the innermost frame.
-use Rattle.std.specs.Prelude.{Bool, List, [], bytes_eq, codes, false, if◌then◌else◌, int_lt, pos, refl, true, ℕ, ℤ, ◌+ℤ◌, ◌++◌, ◌∷◌, ◌≡◌}
+use Rattle.std.specs.Prelude.{Bool, List, [], bytes_eq, codes, false, if◌then◌else◌, int_lt, pos, refl, true, ℕ, ℤ, ◌++◌, ◌+ℤ◌, ◌∷◌, ◌≡◌}
 use Rattle.std.proofs.Common.{ap, sym, ◌∙◌}
 use Rattle.std.proofs.lemmas.List.{append_assoc}
 use Rattle.obq_base.specs.Tree.{ABlock, AnArm, AnExpr, ApplySuffix, ArmTrees, BindTrees, BlockTree, ExprTree, IndexSuffix, InvokeSuffix, ItemTrees, LinkTrees, MaybeBlock, NoArms, NoBlock, NoExprs, SelectSuffix, SuffixTree, SuffixTrees}
@@ -13,14 +13,14 @@ use Rattle.obq_model.specs.Terms.{AndIf, Apply, Array, Bytes, Call, Choosing, Co
 use Rattle.obq_model.proofs.Plug.{plug_append}
 use Rattle.obq_model.proofs.PutRead.{put_read}
 use Rattle.obq_windows.specs.Meanings.{Moves}
-use Rattle.obq_windows.specs.Trees.{BlockTask, Callee, ExprTask, KeptRaising, KeptValue, PendingArguments, PendingCalled, PendingChain, PendingCount, PendingFirst, PendingForm, PendingGuard, PendingHead, PendingIf, PendingKept, PendingLast, PendingLet, PendingLoop, PendingRaise, PendingRight, PendingThen, PendingTo, PendingTry, Place, PlainGet, Silent, Stepped, ToArray, ToBuiltin, ToCall, ToIndex, ToInvoke, TreeFrame, TreeRaising, TreeRun, TreeUnmet, TreeValue, arms_at, begin_args, begin_arms, begin_binds, begin_count, begin_if, begin_rest, bind_of, block_at, callee_frame, count_activations, env_at, expr_at, exprs_at, frames_of, give_and, give_guard, give_if, give_left, give_or, give_pending, give_raise, give_suffix, give_to, going_on, if_at, let_at, link_frame, linked_kind, links_around, names_at, operated, outside_at, pending_frames, push, scope_at, suffix_frame, suffixes_around, tree_moved, tree_raises, tree_result, with_bound, with_links, with_suffixes, writer_at}
+use Rattle.obq_windows.specs.Trees.{BlockTask, Callee, ExprTask, KeptRaising, KeptValue, PendingArguments, PendingCalled, PendingChain, PendingCount, PendingFirst, PendingForm, PendingGuard, PendingHead, PendingIf, PendingKept, PendingLast, PendingLet, PendingLoop, PendingRaise, PendingRight, PendingThen, PendingTo, PendingTry, Place, PlainGet, Silent, Stepped, ToArray, ToBuiltin, ToCall, ToIndex, ToInvoke, TreeFrame, TreeHere, TreeRaising, TreeRun, TreeUnmet, TreeValue, arms_at, begin_args, begin_arms, begin_binds, begin_count, begin_if, begin_rest, bind_of, block_at, callee_frame, count_activations, env_at, expr_at, exprs_at, frames_of, give_and, give_guard, give_if, give_left, give_or, give_pending, give_raise, give_suffix, give_to, going_on, if_at, let_at, link_frame, linked_kind, links_around, names_at, operated, outside_at, pending_frames, push, scope_at, suffix_frame, suffixes_around, tree_moved, tree_raises, tree_result, with_bound, with_links, with_suffixes, writer_at}
 use Rattle.obq_windows.specs.Values.{ClosureValue, ExceptionValue, IntValue, IsMadeTable, LocationValue, OkayValue, PlainValue, Table, TextValue, ThreadValue, TruthValue, proc_of, read_all, read_value, read_values}
 use Rattle.obq_windows.proofs.Around.{asks, found_in, links_frames, pushed, silent, stepped, suffixes_frames, to_here, to_pushed}
 use Rattle.obq_windows.proofs.Begins.{args_right, callee_form, of_term, result_right, suffix_args}
 use Rattle.obq_windows.proofs.Closing.{rest_starts}
 use Rattle.obq_windows.proofs.Envs.{bound_more, names_more}
-use Rattle.obq_windows.proofs.Results.{closure_cases}
 use Rattle.obq_windows.proofs.Operators.{operated_is}
+use Rattle.obq_windows.proofs.Results.{closure_cases}
 use Rattle.obq_windows.proofs.Starting.{binds_at, binds_start, if_starts}
 
 -- the window with this frame is the frame's form around the value, inside of the others
@@ -106,7 +106,7 @@ select_given eq T a s (TextValue z) p x place ss fs = to_here eq T a s (with_suf
 select_given eq T a s (ExceptionValue z) p x place ss fs = to_here eq T a s (with_suffixes p ss fs) _ (tree_raises (codes "type")) refl
 select_given eq T a s (ThreadValue z) p x place ss fs = to_here eq T a s (with_suffixes p ss fs) _ (tree_raises (codes "type")) refl
 select_given eq T a s (ClosureValue t c group index cs) p x place ss fs = to_here eq T a s (with_suffixes p ss fs) _ (tree_raises (codes "type")) (closure_cases T (read_values T cs) (proc_of T group index) (λ f. find eq (activations_at a (frames_of T (with_suffixes p ss fs))) (self_at s (frames_of T (with_suffixes p ss fs))) (Form (Select x) (Part (Const f) End)) ≡ Next (wrong_type)) (λ params body. refl) (λ names G i. refl))
-select_given eq T a s (LocationValue Object o) p x place ss fs = asks eq T a s (with_suffixes p ss fs) _ (PlainGet o x) (TreeValue OkayValue) refl
+select_given eq T a s (LocationValue Object o) p x place ss fs = asks eq T a s (with_suffixes p ss fs) _ (PlainGet o x) TreeHere refl
 select_given eq T a s (LocationValue Array o) p x place ss fs = to_here eq T a s (with_suffixes p ss fs) _ (tree_raises (codes "type")) refl
 select_given eq T a s (LocationValue Variable o) p x place ss fs = to_here eq T a s (with_suffixes p ss fs) _ (tree_raises (codes "type")) refl
 select_given eq T a s (LocationValue Writer o) p x place ss fs = to_here eq T a s (with_suffixes p ss fs) _ (tree_raises (codes "type")) refl

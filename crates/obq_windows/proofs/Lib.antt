@@ -1,8 +1,10 @@
+pub mod Acts
 pub mod Alike
 pub mod AlikeCalls
 pub mod AlikeGives
 pub mod AlikeItems
 pub mod AlikeMoves
+pub mod Answering
 pub mod Around
 pub mod Begins
 pub mod BuiltIns

@@ -12,7 +12,7 @@ use Rattle.obq_model.specs.Step.{Self, activations_at, find, plug, self_at}
 use Rattle.obq_model.specs.Terms.{Apply, Array, Bytes, Condition, Const, Engine, ExitUp, Form, Let, Loc, Name, Object, Term, Variable, Writer}
 use Rattle.obq_model.proofs.Plug.{plug_append}
 use Rattle.obq_windows.specs.Meanings.{Moves}
-use Rattle.obq_windows.specs.Trees.{BlockTask, ExprTask, HintExpr, HintItems, HintTask, ItemsTask, PendingFirst, PendingHead, PendingIf, PendingLast, PendingLet, PendingLoop, PendingRaise, PendingThen, PendingTry, Place, PlainRead, Silent, Tag, Task, ToArray, ToBuiltin, TreeFrame, TreeRaising, TreeRun, TreeValue, begin_args, begin_binds, begin_block, begin_expr, begin_if, begin_items, begin_name, begin_suffixes, begin_task, block_at, count_activations, env_at, expr_at, exprs_at, frames_of, going_on, if_at, items_at, links_around, names_at, outside_at, pending_frames, push, suffixes_around, task_term, tree_moved, tree_raises, used, value_of, with_suffixes, writer_at}
+use Rattle.obq_windows.specs.Trees.{BlockTask, ExprTask, HintExpr, HintItems, HintTask, ItemsTask, PendingFirst, PendingHead, PendingIf, PendingLast, PendingLet, PendingLoop, PendingRaise, PendingThen, PendingTry, Place, PlainRead, Silent, Tag, Task, ToArray, ToBuiltin, TreeFrame, TreeHere, TreeRaising, TreeRun, TreeValue, begin_args, begin_binds, begin_block, begin_expr, begin_if, begin_items, begin_name, begin_suffixes, begin_task, block_at, count_activations, env_at, expr_at, exprs_at, frames_of, going_on, if_at, items_at, links_around, names_at, outside_at, pending_frames, push, suffixes_around, task_term, tree_moved, tree_raises, used, value_of, with_suffixes, writer_at}
 use Rattle.obq_windows.specs.Values.{ClosureValue, ExceptionValue, IntValue, IsMadeTable, LocationValue, OkayValue, PlainValue, Table, TextValue, ThreadValue, TruthValue, proc_of, read_value, read_values}
 use Rattle.obq_windows.proofs.Around.{Starts, asks, chain_read, here, links_frames, pushed, silent, suffixes_frames, suffixes_read, to_here, to_pushed}
 use Rattle.obq_windows.proofs.Begins.{args_right, of_term, suffix_args}
@@ -45,7 +45,7 @@ name_begins {R} eq T a s p x fs true = at (value_of T p x) refl where
 
   at : (o : Option (PlainValue R)) → value_of T p x ≡ o → Moves eq T a s (plug (frames_of T fs) (name_or x (env_at T p x))) (used o fs)
   at None e = to_here eq T a s fs _ (tree_raises (codes "type")) (ap (λ (z : Option (PlainValue R)). find eq (activations_at a (frames_of T fs)) (self_at s (frames_of T fs)) (name_or x (option_map (read_value T) z))) e)
-  at (Some (LocationValue Variable r)) e = asks eq T a s fs _ (PlainRead r) (TreeValue OkayValue) (ap (λ (z : Option (PlainValue R)). find eq (activations_at a (frames_of T fs)) (self_at s (frames_of T fs)) (name_or x (option_map (read_value T) z))) e)
+  at (Some (LocationValue Variable r)) e = asks eq T a s fs _ (PlainRead r) TreeHere (ap (λ (z : Option (PlainValue R)). find eq (activations_at a (frames_of T fs)) (self_at s (frames_of T fs)) (name_or x (option_map (read_value T) z))) e)
   at (Some (LocationValue Object r)) e = value _ e refl
   at (Some (LocationValue Array r)) e = value _ e refl
   at (Some (LocationValue Writer r)) e = value _ e refl

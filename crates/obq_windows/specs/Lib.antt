@@ -1,4 +1,5 @@
 pub mod Agrees
+pub mod Acts
 pub mod Complete
 pub mod Laws
 pub mod Meanings

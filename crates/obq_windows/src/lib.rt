@@ -1,6 +1,7 @@
 //! Windows of the pure machine against its terms: laws and definitions. No code runs here.
 #![tactic(auto)]
 
+ghost use Rattle.obq_windows.specs.Acts.{AnswersRead};
 ghost use Rattle.obq_windows.specs.Laws.{OpeningReads, OpeningRuns, RunMoves, StepsAreThose, TreeMoves, WindowMoves};
 ghost use Rattle.obq_windows.specs.Programs.{ProgramsAgree, ProgramsRun};
 
@@ -17,6 +18,12 @@ pub fn window_moves<R>()
 /// A run of moves of a window over nodes comes to what its pure steps of the term come to, with the same stop.
 pub fn run_moves<R>()
     ensures law { RunMoves R }
+{}
+
+/// What an act leaves may stand at the act's form: a value, a raising, or another act's form. The window then reads back as the
+/// frames around that form with it in their hole.
+pub fn answers_read<R>()
+    ensures law { AnswersRead R }
 {}
 
 /// Those pure steps are the ones that a journal's entry counts.
