@@ -1,5 +1,5 @@
 -- A value, and a raising, in a frame: nodes and trees do the same.
-use Rattle.std.specs.Prelude.{Bool, List, None, Option, Some, [], bytes_eq, codes, drop, false, if◌then◌else◌, int_lt, refl, slice_get, suc, true, ℕ, ℤ, ◌++◌, ◌+◌, ◌∷◌, ◌≡◌, ◌≤◌}
+use Rattle.std.specs.Prelude.{Bool, List, None, Option, Some, [], bytes_eq, codes, drop, false, if◌then◌else◌, int_lt, pos, refl, slice_get, suc, true, ℕ, ℤ, ◌++◌, ◌+ℤ◌, ◌+◌, ◌∷◌, ◌≡◌, ◌≤◌}
 use Rattle.obq_base.specs.declared.code.Node.TheVariants as n
 use Rattle.std.proofs.Common.{arith, subst, sym}
 use Rattle.obq_base.specs.Tree.{ALink, AnArm, AnExpr, ApplySuffix, ArmTrees, BindTrees, BlockTree, ExprTree, IndexSuffix, InvokeSuffix, ItemTrees, LinkTrees, MaybeBlock, NoArms, NoExprs, NoLinks, SelectSuffix, SuffixTree, SuffixTrees}
@@ -11,9 +11,9 @@ use Rattle.obq_model.specs.Occurrences.{bind_names}
 use Rattle.obq_model.specs.Terms.{Apply, Array, Bytes, Condition, Engine, Index, Invoke, Object, Select, Variable, Writer}
 use Rattle.obq_model.proofs.Drafted.{drafted_block, drafted_expr, drafted_suffix}
 use Rattle.obq_windows.specs.Agrees.{AfterIs, Agrees, FramesAre, IsBound, Same, StandsAt, place_at}
-use Rattle.obq_windows.specs.Trees.{Asks, BlockTask, Bound, ExprTask, Kept, KeptRaising, KeptValue, PendingChain, PendingCount, PendingGuard, PendingRight, PlainGet, PlainOperation, Silent, Stepped, ToCall, ToIndex, ToInvoke, TreeAct, TreeAfter, TreeFrame, TreeHere, TreeRaising, TreeRun, TreeUnmet, TreeValue, begin_arms, begin_binds, begin_count, bind_of, bound_names, give_and, give_guard, give_if, give_left, give_or, give_raise, give_suffix, give_to, outside_at, push, tree_act, tree_moved, tree_raises, with_bound, with_links, with_suffixes}
+use Rattle.obq_windows.specs.Trees.{Asks, BlockTask, Bound, ExprTask, Kept, KeptRaising, KeptValue, PendingChain, PendingCount, PendingGuard, PendingRight, PlainGet, PlainOperation, Silent, Stepped, ToCall, ToIndex, ToInvoke, TreeAct, TreeAfter, TreeFrame, TreeHere, TreeRaising, TreeRun, TreeUnmet, TreeValue, begin_arms, begin_binds, begin_count, bind_of, bound_names, count_at, give_and, give_guard, give_if, give_left, give_or, give_raise, give_suffix, give_to, next_count, outside_at, push, tree_act, tree_moved, tree_raises, with_bound, with_links, with_suffixes}
 use Rattle.obq_windows.specs.Values.{ClosureValue, ExceptionValue, IntValue, LocationValue, OkayValue, PlainValue, Table, TextValue, ThreadValue, TruthValue}
-use Rattle.obq_windows.specs.Windows.{Activation, NodeAct, NodeAfter, NodeChain, NodeCount, NodeFrame, NodeGuard, NodeHere, NodeRaising, NodeRight, NodeRun, NodeUnmet, NodeValue, Store, act_node, bind, binds_node, count_node, give_node_and, give_node_guard, give_node_if, give_node_left, give_node_or, give_node_raise, give_node_suffix, give_node_to, guards_node, node_at, node_moved, node_raises, operator_in, with_operator, with_suffix}
+use Rattle.obq_windows.specs.Windows.{Activation, NodeAct, NodeAfter, NodeChain, NodeCount, NodeFrame, NodeGuard, NodeHere, NodeRaising, NodeRight, NodeRun, NodeUnmet, NodeValue, Store, act_node, bind, binds_node, count_node, count_node_at, give_node_and, give_node_guard, give_node_if, give_node_left, give_node_or, give_node_raise, give_node_suffix, give_node_to, guards_node, next_count_node, node_at, node_moved, node_raises, operator_in, with_operator, with_suffix}
 use Rattle.obq_windows.proofs.Alike.{arms_alike, at_node, suffix_frames}
 use Rattle.obq_windows.proofs.AlikeCalls.{args_alike}
 use Rattle.obq_windows.proofs.AlikeItems.{binds_alike, respelled}
@@ -39,20 +39,30 @@ let_alike T S g act b bound w ns fs fr child at x bs is v h k =
       one_more : (n : ℕ) → n ≤ suc n
       one_more n = omega arith
 
--- a `for` from a number on
+-- the block of a `for` with a number
+number_alike : {R : Type 0} → (T : Table R) (S : Store R) (act : Activation R) (b : ℕ) (bound : List (Bound R)) → IsBound act b bound → (ns : List (NodeFrame R)) (fs : List (TreeFrame R)) → FramesAre T S act b ns fs → (child : ℕ) (x : Bytes) (block : BlockTree) (i n : ℤ)
+    → StandsAt T S act.code (draft_block (outside_at T (place_at act bound)) (bound_names bound ++ x ∷ []) block) child → Same T S (count_node_at act ns i n child b) (count_at (place_at act bound) i n x block fs)
+number_alike {R} T S act b bound w ns fs fr child x block i n h =
+    alike T S Stepped (bind act b (IntValue i ∷ [])) (suc b) (NodeCount i n child b ∷ ns) (NodeRun child (suc b)) (push (place_at act bound) (PendingCount i n x block) fs) (TreeRun (with_bound (place_at act bound) (bind_of x (IntValue i) ∷ [])) (BlockTask block))
+    (NodeCount i n child b, ns, refl, (child, b, refl, one_more b, place_kept act b b (IntValue i ∷ []) (place_at act bound) (not_above b) (bound, refl, w), h), frames_kept T S act b b (IntValue i ∷ []) ns fs (not_above b) fr)
+    (child, refl, (bound ++ bind_of x (IntValue i) ∷ [], refl, bound_more_is act b bound x (IntValue i) w), respelled (λ z. draft_block (outside_at T (place_at act bound)) z block) _ _ (sym (names_more bound x (IntValue i))) h) where
+      one_more : (n : ℕ) → n ≤ suc n
+      one_more n = omega arith
+
+-- a `for` from a number on, and behind one
 pub counting_alike : {R : Type 0} → (T : Table R) (S : Store R) (act : Activation R) (b : ℕ) (bound : List (Bound R)) → IsBound act b bound → (ns : List (NodeFrame R)) (fs : List (TreeFrame R)) → FramesAre T S act b ns fs → (child : ℕ) (x : Bytes) (block : BlockTree) (i n : ℤ)
     → StandsAt T S act.code (draft_block (outside_at T (place_at act bound)) (bound_names bound ++ x ∷ []) block) child → Same T S (count_node act ns i n child b) (begin_count (place_at act bound) i n x block fs)
 counting_alike {R} T S act b bound w ns fs fr child x block i n h = at (int_lt n i) where
-  one_more : (n : ℕ) → n ≤ suc n
-  one_more n = omega arith
-
-  at : (c : Bool) → Same T S (if c then node_moved Stepped act ns (NodeValue OkayValue) else node_moved Stepped (bind act b (IntValue i ∷ [])) (NodeCount i n child b ∷ ns) (NodeRun child (suc b)))
-      (if c then tree_moved Stepped fs (TreeValue OkayValue) else tree_moved Stepped (push (place_at act bound) (PendingCount i n x block) fs) (TreeRun (with_bound (place_at act bound) (bind_of x (IntValue i) ∷ [])) (BlockTask block)))
+  at : (c : Bool) → Same T S (if c then node_moved Stepped act ns (NodeValue OkayValue) else count_node_at act ns i n child b) (if c then tree_moved Stepped fs (TreeValue OkayValue) else count_at (place_at act bound) i n x block fs)
   at true = alike T S Stepped act b ns (NodeValue OkayValue) fs (TreeValue OkayValue) fr refl
-  at false =
-      alike T S Stepped (bind act b (IntValue i ∷ [])) (suc b) (NodeCount i n child b ∷ ns) (NodeRun child (suc b)) (push (place_at act bound) (PendingCount i n x block) fs) (TreeRun (with_bound (place_at act bound) (bind_of x (IntValue i) ∷ [])) (BlockTask block))
-      (NodeCount i n child b, ns, refl, (child, b, refl, one_more b, place_kept act b b (IntValue i ∷ []) (place_at act bound) (not_above b) (bound, refl, w), h), frames_kept T S act b b (IntValue i ∷ []) ns fs (not_above b) fr)
-      (child, refl, (bound ++ bind_of x (IntValue i) ∷ [], refl, bound_more_is act b bound x (IntValue i) w), respelled (λ z. draft_block (outside_at T (place_at act bound)) z block) _ _ (sym (names_more bound x (IntValue i))) h)
+  at false = number_alike T S act b bound w ns fs fr child x block i n h
+
+pub next_alike : {R : Type 0} → (T : Table R) (S : Store R) (act : Activation R) (b : ℕ) (bound : List (Bound R)) → IsBound act b bound → (ns : List (NodeFrame R)) (fs : List (TreeFrame R)) → FramesAre T S act b ns fs → (child : ℕ) (x : Bytes) (block : BlockTree) (i n : ℤ)
+    → StandsAt T S act.code (draft_block (outside_at T (place_at act bound)) (bound_names bound ++ x ∷ []) block) child → Same T S (next_count_node act ns i n child b) (next_count (place_at act bound) i n x block fs)
+next_alike {R} T S act b bound w ns fs fr child x block i n h = at (int_lt i n) where
+  at : (c : Bool) → Same T S (if c then count_node_at act ns (i +ℤ pos 1) n child b else node_moved Stepped act ns (NodeValue OkayValue)) (if c then count_at (place_at act bound) (i +ℤ pos 1) n x block fs else tree_moved Stepped fs (TreeValue OkayValue))
+  at true = number_alike T S act b bound w ns fs fr child x block (i +ℤ pos 1) n h
+  at false = alike T S Stepped act b ns (NodeValue OkayValue) fs (TreeValue OkayValue) fr refl
 
 pub to_alike : {R : Type 0} → (T : Table R) (S : Store R) (act : Activation R) (b : ℕ) (bound : List (Bound R)) → IsBound act b bound → (ns : List (NodeFrame R)) (fs : List (TreeFrame R)) → FramesAre T S act b ns fs → (child : ℕ) (x : Bytes) (block : BlockTree) (v z : PlainValue R)
     → StandsAt T S act.code (draft_block (outside_at T (place_at act bound)) (bound_names bound ++ x ∷ []) block) child → Same T S (give_node_to v z act ns child b) (give_to v z (place_at act bound) x block fs)

@@ -1,6 +1,7 @@
 -- A value in the innermost frame.
 use Rattle.std.specs.Prelude.{Bool, List, [], bytes_eq, codes, false, if◌then◌else◌, int_lt, pos, refl, true, ℕ, ℤ, ◌++◌, ◌+ℤ◌, ◌∷◌, ◌≡◌}
-use Rattle.std.proofs.Common.{ap, sym, ◌∙◌}
+use Rattle.std.proofs.Common.{ap, arith, sym, ◌∙◌}
+use Rattle.std.proofs.lemmas.Int.{ints}
 use Rattle.std.proofs.lemmas.List.{append_assoc}
 use Rattle.obq_base.specs.Tree.{ABlock, AnArm, AnExpr, ApplySuffix, ArmTrees, BindTrees, BlockTree, ExprTree, IndexSuffix, InvokeSuffix, ItemTrees, LinkTrees, MaybeBlock, NoArms, NoBlock, NoExprs, SelectSuffix, SuffixTree, SuffixTrees}
 use Rattle.obq_base.specs.declared.trees.Operator.{Operator}
@@ -13,7 +14,7 @@ use Rattle.obq_model.specs.Terms.{AndIf, Apply, Array, Bytes, Call, Choosing, Co
 use Rattle.obq_model.proofs.Plug.{plug_append}
 use Rattle.obq_model.proofs.PutRead.{put_read}
 use Rattle.obq_windows.specs.Meanings.{Moves}
-use Rattle.obq_windows.specs.Trees.{BlockTask, Callee, ExprTask, KeptRaising, KeptValue, PendingArguments, PendingCalled, PendingChain, PendingCount, PendingFirst, PendingForm, PendingGuard, PendingHead, PendingIf, PendingKept, PendingLast, PendingLet, PendingLoop, PendingRaise, PendingRight, PendingThen, PendingTo, PendingTry, Place, PlainGet, Silent, Stepped, ToArray, ToBuiltin, ToCall, ToIndex, ToInvoke, TreeFrame, TreeHere, TreeRaising, TreeRun, TreeUnmet, TreeValue, arms_at, begin_args, begin_arms, begin_binds, begin_count, begin_if, begin_rest, bind_of, block_at, callee_frame, count_activations, env_at, expr_at, exprs_at, frames_of, give_and, give_guard, give_if, give_left, give_or, give_pending, give_raise, give_suffix, give_to, going_on, if_at, let_at, link_frame, linked_kind, links_around, names_at, operated, outside_at, pending_frames, push, scope_at, suffix_frame, suffixes_around, tree_moved, tree_raises, tree_result, with_bound, with_links, with_suffixes, writer_at}
+use Rattle.obq_windows.specs.Trees.{BlockTask, Callee, ExprTask, KeptRaising, KeptValue, PendingArguments, PendingCalled, PendingChain, PendingCount, PendingFirst, PendingForm, PendingGuard, PendingHead, PendingIf, PendingKept, PendingLast, PendingLet, PendingLoop, PendingRaise, PendingRight, PendingThen, PendingTo, PendingTry, Place, PlainGet, Silent, Stepped, ToArray, ToBuiltin, ToCall, ToIndex, ToInvoke, TreeFrame, TreeHere, TreeRaising, TreeRun, TreeUnmet, TreeValue, arms_at, begin_args, begin_arms, begin_binds, begin_count, begin_if, begin_rest, bind_of, block_at, callee_frame, count_activations, count_at, env_at, expr_at, exprs_at, frames_of, give_and, give_guard, give_if, give_left, give_or, give_pending, give_raise, give_suffix, give_to, going_on, if_at, let_at, link_frame, linked_kind, links_around, names_at, next_count, operated, outside_at, pending_frames, push, scope_at, suffix_frame, suffixes_around, tree_moved, tree_raises, tree_result, with_bound, with_links, with_suffixes, writer_at}
 use Rattle.obq_windows.specs.Values.{ClosureValue, ExceptionValue, IntValue, IsMadeTable, LocationValue, OkayValue, PlainValue, Table, TextValue, ThreadValue, TruthValue, proc_of, read_all, read_value, read_values}
 use Rattle.obq_windows.proofs.Around.{asks, found_in, links_frames, pushed, silent, stepped, suffixes_frames, to_here, to_pushed}
 use Rattle.obq_windows.proofs.Begins.{args_right, callee_form, of_term, result_right, suffix_args}
@@ -151,15 +152,39 @@ block_entered {R} T p x v b =
     ∙ ap (λ (env : Env R). read env (open_block (writer_at T p) (outside_at T p) (names_at p ++ x ∷ []) b)) (bound_more T p x v)
     ∙ ap (λ (names : List Bytes). read (env_at T (with_bound p (bind_of x v ∷ []))) (open_block (writer_at T p) (outside_at T p) names b)) (sym (names_more p.bound x v))
 
+-- the block with this number
+at_number : {R : Type 0} → (eq : R → R → Bool) (T : Table R) (a : ℕ) (s : Self R) (fs : List (TreeFrame R)) (t : Term R) (p : Place R) (i n : ℤ) (x : Bytes) (b : BlockTree) → found_in eq T a s fs t ≡ Next (counting i n (scope_at T p x b)) → int_lt n i ≡ false
+    → Moves eq T a s (plug (frames_of T fs) t) (count_at p i n x b fs)
+at_number {R} eq T a s fs t p i n x b h e =
+    to_pushed eq T a s fs t p (PendingCount i n x b) (TreeRun (with_bound p (bind_of x (IntValue i) ∷ [])) (BlockTask b))
+    (h ∙ ap (λ (c : Bool). Next (if c then Const Okay else Form (Counting i n) (Part (enter (Int i ∷ []) (scope_at T p x b)) (Part (scope_at T p x b) End)))) e
+    ∙ ap (λ (u : Term R). Next (Form (Counting i n) (Part u (Part (scope_at T p x b) End)))) (block_entered T p x (IntValue i) b))
+
+past_last : {R : Type 0} → (eq : R → R → Bool) (T : Table R) (a : ℕ) (s : Self R) (fs : List (TreeFrame R)) (t : Term R) (p : Place R) (i n : ℤ) (x : Bytes) (b : BlockTree) → found_in eq T a s fs t ≡ Next (counting i n (scope_at T p x b)) → int_lt n i ≡ true
+    → Moves eq T a s (plug (frames_of T fs) t) (tree_moved Stepped fs (TreeValue OkayValue))
+past_last {R} eq T a s fs t p i n x b h e =
+    to_here eq T a s fs t (TreeValue OkayValue) (h ∙ ap (λ (c : Bool). Next (if c then Const Okay else Form (Counting i n) (Part (enter (Int i ∷ []) (scope_at T p x b)) (Part (scope_at T p x b) End)))) e)
+
 count_right : {R : Type 0} → (eq : R → R → Bool) (T : Table R) (a : ℕ) (s : Self R) (fs : List (TreeFrame R)) (t : Term R) (p : Place R) (i n : ℤ) (x : Bytes) (b : BlockTree) → found_in eq T a s fs t ≡ Next (counting i n (scope_at T p x b))
     → Moves eq T a s (plug (frames_of T fs) t) (begin_count p i n x b fs)
 count_right {R} eq T a s fs t p i n x b h = at (int_lt n i) refl where
-  at : (c : Bool) → int_lt n i ≡ c → Moves eq T a s (plug (frames_of T fs) t) (if c then tree_moved Stepped fs (TreeValue OkayValue) else tree_moved Stepped (push p (PendingCount i n x b) fs) (TreeRun (with_bound p (bind_of x (IntValue i) ∷ [])) (BlockTask b)))
-  at true e = to_here eq T a s fs t (TreeValue OkayValue) (h ∙ ap (λ (c : Bool). Next (if c then Const Okay else Form (Counting i n) (Part (enter (Int i ∷ []) (scope_at T p x b)) (Part (scope_at T p x b) End)))) e)
-  at false e =
-      to_pushed eq T a s fs t p (PendingCount i n x b) (TreeRun (with_bound p (bind_of x (IntValue i) ∷ [])) (BlockTask b))
-      (h ∙ ap (λ (c : Bool). Next (if c then Const Okay else Form (Counting i n) (Part (enter (Int i ∷ []) (scope_at T p x b)) (Part (scope_at T p x b) End)))) e
-      ∙ ap (λ (u : Term R). Next (Form (Counting i n) (Part u (Part (scope_at T p x b) End)))) (block_entered T p x (IntValue i) b))
+  at : (c : Bool) → int_lt n i ≡ c → Moves eq T a s (plug (frames_of T fs) t) (if c then tree_moved Stepped fs (TreeValue OkayValue) else count_at p i n x b fs)
+  at true e = past_last eq T a s fs t p i n x b h e
+  at false e = at_number eq T a s fs t p i n x b h e
+
+-- one more than a number is above the last one exactly where that isn't above the number
+above : (i n : ℤ) → int_lt i n ≡ false → int_lt n (i +ℤ pos 1) ≡ true
+above i n h = grind (arith, ints, h)
+
+not_above : (i n : ℤ) → int_lt i n ≡ true → int_lt n (i +ℤ pos 1) ≡ false
+not_above i n h = grind (arith, ints, h)
+
+next_right : {R : Type 0} → (eq : R → R → Bool) (T : Table R) (a : ℕ) (s : Self R) (fs : List (TreeFrame R)) (t : Term R) (p : Place R) (i n : ℤ) (x : Bytes) (b : BlockTree) → found_in eq T a s fs t ≡ Next (counting (i +ℤ pos 1) n (scope_at T p x b))
+    → Moves eq T a s (plug (frames_of T fs) t) (next_count p i n x b fs)
+next_right {R} eq T a s fs t p i n x b h = at (int_lt i n) refl where
+  at : (c : Bool) → int_lt i n ≡ c → Moves eq T a s (plug (frames_of T fs) t) (if c then count_at p (i +ℤ pos 1) n x b fs else tree_moved Stepped fs (TreeValue OkayValue))
+  at true e = at_number eq T a s fs t p (i +ℤ pos 1) n x b h (not_above i n e)
+  at false e = past_last eq T a s fs t p (i +ℤ pos 1) n x b h (above i n e)
 
 to_given : {R : Type 0} → (eq : R → R → Bool) (T : Table R) (a : ℕ) (s : Self R) (v w : PlainValue R) (p : Place R) (x : Bytes) (b : BlockTree) (fs : List (TreeFrame R))
     → Moves eq T a s (plug (frames_of T fs) (Form For (Part (Const (read_value T v)) (Part (Const (read_value T w)) (Part (scope_at T p x b) End))))) (give_to v w p x b fs)
@@ -213,5 +238,5 @@ given eq T a s w v p (PendingKept (KeptValue u)) fs = of_term eq T a s _ _ (tree
 given eq T a s w v p (PendingKept (KeptRaising r)) fs = of_term eq T a s _ _ (tree_moved Stepped fs (TreeRaising r)) (one_frame T fs _ _) (to_here eq T a s fs _ (TreeRaising r) refl)
 given eq T a s w v p (PendingFirst x n b) fs = of_term eq T a s _ _ (tree_moved Silent (push p (PendingTo v x b) fs) (TreeRun p (ExprTask n))) (one_frame T fs _ _) (silent eq T a s fs _ (tree_moved Silent (push p (PendingTo v x b) fs) (TreeRun p (ExprTask n))) (record { tag_is = refl; leads = pushed T fs p (PendingTo v x b) (TreeRun p (ExprTask n)) _ refl }))
 given eq T a s w v p (PendingTo first x b) fs = of_term eq T a s _ _ (give_to first v p x b fs) (one_frame T fs _ _) (to_given eq T a s first v p x b fs)
-given eq T a s w v p (PendingCount i n x b) fs = of_term eq T a s _ _ (begin_count p (i +ℤ pos 1) n x b fs) (one_frame T fs _ _) (count_right eq T a s fs _ p (i +ℤ pos 1) n x b refl)
+given eq T a s w v p (PendingCount i n x b) fs = of_term eq T a s _ _ (next_count p i n x b fs) (one_frame T fs _ _) (next_right eq T a s fs _ p i n x b refl)
 given eq T a s w v p (PendingLoop b) fs = of_term eq T a s _ _ (tree_moved Stepped (push p (PendingLoop b) fs) (TreeRun p (BlockTask b))) (one_frame T fs _ _) (to_pushed eq T a s fs _ p (PendingLoop b) (TreeRun p (BlockTask b)) refl)
