@@ -10,7 +10,8 @@ use Rattle.obq_model.specs.Terms.{End, Exn, Invoke, Loc, MakeArray, Object, Term
 use Rattle.obq_model.proofs.Among.{true_false}
 use Rattle.obq_model.proofs.Plug.{needs_plug, operands, step_plug}
 use Rattle.obq_windows.specs.Meanings.{Moves}
-use Rattle.obq_windows.specs.Trees.{Kept, KeptRaising, KeptValue, PlainBroadcast, PlainGet, PlainInvoke, PlainItemOf, PlainJoin, PlainNewArray, PlainNewCondition, PlainOperation, PlainRead, PlainSignal, PlainSize, PlainWrite, TreeAct, TreeAfter, TreeFrame, TreeRaising, TreeValue, act_ends, act_form, count_activations, frames_of, kept_term, read_operation, scope_after, term_of, tree_act}
+use Rattle.obq_windows.specs.Moves.{act_ends, count_activations, tree_act}
+use Rattle.obq_windows.specs.Trees.{Kept, KeptRaising, KeptValue, PlainBroadcast, PlainGet, PlainInvoke, PlainItemOf, PlainJoin, PlainNewArray, PlainNewCondition, PlainOperation, PlainRead, PlainSignal, PlainSize, PlainWrite, TreeAct, TreeAfter, TreeFrame, TreeRaising, TreeValue, act_form, frames_of, kept_term, read_operation, scope_after, term_of}
 use Rattle.obq_windows.specs.Values.{Table, read_all}
 use Rattle.obq_windows.proofs.Around.{are_frames, asks, found_in, to_here}
 use Rattle.obq_windows.proofs.Begins.{counted, length_read}

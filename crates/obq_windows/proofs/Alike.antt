@@ -22,7 +22,9 @@ use Rattle.obq_model.proofs.Finds.{row_called}
 use Rattle.obq_model.proofs.Occurring.{captured_covered}
 use Rattle.obq_windows.specs.Agrees.{Agrees, FramesAre, IsBound, Same, StandsAt, place_at}
 use Rattle.obq_windows.specs.Complete.{PlaceLaw}
-use Rattle.obq_windows.specs.Trees.{BlockTask, Bound, ExprTask, HintExpr, PendingChain, PendingFirst, PendingHead, PendingIf, PendingLast, PendingLoop, PendingRaise, PendingTry, Place, Silent, Stepped, Tag, ToArray, ToBuiltin, TreeFrame, TreeMoved, TreeRaising, TreeRun, TreeValue, begin_args, begin_expr, begin_if, begin_proc, begin_suffixes, bound_names, captured_values, env_at, going_on, outside_at, push, tree_made, tree_moved, tree_raises, with_suffixes, writer_at}
+use Rattle.obq_windows.specs.Moves.{HintExpr, begin_args, begin_expr, begin_if, begin_proc, begin_suffixes, captured_values, going_on, with_suffixes}
+use Rattle.obq_windows.specs.Places.{Bound, Place, bound_names, env_at, outside_at, writer_at}
+use Rattle.obq_windows.specs.Trees.{BlockTask, ExprTask, PendingChain, PendingFirst, PendingHead, PendingIf, PendingLast, PendingLoop, PendingRaise, PendingTry, Silent, Stepped, Tag, ToArray, ToBuiltin, TreeFrame, TreeMoved, TreeRaising, TreeRun, TreeValue, push, tree_made, tree_moved, tree_raises}
 use Rattle.obq_windows.specs.Values.{ClosureValue, IntValue, OkayValue, PlainValues, Table, TextValue, TruthValue, depth_of_values}
 use Rattle.obq_windows.specs.Windows.{Activation, NodeChain, NodeFirst, NodeFrame, NodeHead, NodeIf, NodeLast, NodeLoop, NodeMoved, NodeRaise, NodeRaising, NodeRun, NodeTry, NodeValue, Store, arms_node, begin_node, item_node, node_at, node_made, node_moved, node_raises, suffixes_node, with_item, with_operator, with_suffix}
 use Rattle.obq_windows.proofs.AlikeCalls.{args_alike}

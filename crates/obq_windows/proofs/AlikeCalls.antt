@@ -14,7 +14,10 @@ use Rattle.obq_model.specs.Step.{is_call_limit}
 use Rattle.obq_model.specs.Terms.{Array, Bytes, Condition, Engine, Object, Variable, Writer}
 use Rattle.obq_model.proofs.Drafted.{drafted_expr}
 use Rattle.obq_windows.specs.Agrees.{Agrees, FramesAre, IsBound, Same, StandsAt, place_at}
-use Rattle.obq_windows.specs.Trees.{Asks, Beyond, BlockTask, Bound, Callee, Does, ExprTask, Gives, PendingArguments, PendingCalled, PlainResult, Raises, Silent, Stepped, ToArray, ToBuiltin, ToCall, ToIndex, ToInvoke, TreeAct, TreeFrame, TreeHere, TreeRun, TreeValue, applied, array_made, begin_args, bound_names, bound_values, call_code, call_plain, entered, finish_args, indexed, invoked, outside_at, place_of, proc_outside, push, tree_moved, tree_raises, tree_result, zipped}
+use Rattle.obq_windows.specs.Moves.{begin_args, call_code, call_plain, entered, finish_args, tree_result}
+use Rattle.obq_windows.specs.Places.{Bound, bound_names, bound_values, outside_at, place_of, proc_outside, zipped}
+use Rattle.obq_windows.specs.Results.{Beyond, Does, Gives, PlainResult, Raises, applied, array_made, indexed, invoked}
+use Rattle.obq_windows.specs.Trees.{Asks, BlockTask, Callee, ExprTask, PendingArguments, PendingCalled, Silent, Stepped, ToArray, ToBuiltin, ToCall, ToIndex, ToInvoke, TreeAct, TreeFrame, TreeHere, TreeRun, TreeValue, push, tree_moved, tree_raises}
 use Rattle.obq_windows.specs.Values.{ClosureValue, ExceptionValue, IntValue, LocationValue, OkayValue, PlainValue, PlainValues, Table, TextValue, ThreadValue, TruthValue}
 use Rattle.obq_windows.specs.Windows.{Activation, NodeAct, NodeArguments, NodeCalled, NodeFrame, NodeHere, NodeRun, NodeValue, Store, activation_of, args_node, call_node_code, call_node_plain, enter_code, finish_node, node_moved, node_raises, node_result}
 use Rattle.obq_windows.proofs.Calls.{same_length}

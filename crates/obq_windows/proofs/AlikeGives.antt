@@ -11,7 +11,9 @@ use Rattle.obq_model.specs.Occurrences.{bind_names}
 use Rattle.obq_model.specs.Terms.{Apply, Array, Bytes, Condition, Engine, Index, Invoke, Object, Select, Variable, Writer}
 use Rattle.obq_model.proofs.Drafted.{drafted_block, drafted_expr, drafted_suffix}
 use Rattle.obq_windows.specs.Agrees.{AfterIs, Agrees, FramesAre, IsBound, Same, StandsAt, place_at}
-use Rattle.obq_windows.specs.Trees.{Asks, BlockTask, Bound, ExprTask, Kept, KeptRaising, KeptValue, PendingChain, PendingCount, PendingGuard, PendingRight, PlainGet, PlainOperation, Silent, Stepped, ToCall, ToIndex, ToInvoke, TreeAct, TreeAfter, TreeFrame, TreeHere, TreeRaising, TreeRun, TreeUnmet, TreeValue, begin_arms, begin_binds, begin_count, bind_of, bound_names, count_at, give_and, give_guard, give_if, give_left, give_or, give_raise, give_suffix, give_to, next_count, outside_at, push, tree_act, tree_moved, tree_raises, with_bound, with_links, with_suffixes}
+use Rattle.obq_windows.specs.Moves.{begin_arms, begin_binds, begin_count, count_at, give_and, give_guard, give_if, give_left, give_or, give_raise, give_suffix, give_to, next_count, tree_act, with_links, with_suffixes}
+use Rattle.obq_windows.specs.Places.{Bound, bind_of, bound_names, outside_at, with_bound}
+use Rattle.obq_windows.specs.Trees.{Asks, BlockTask, ExprTask, Kept, KeptRaising, KeptValue, PendingChain, PendingCount, PendingGuard, PendingRight, PlainGet, PlainOperation, Silent, Stepped, ToCall, ToIndex, ToInvoke, TreeAct, TreeAfter, TreeFrame, TreeHere, TreeRaising, TreeRun, TreeUnmet, TreeValue, push, tree_moved, tree_raises}
 use Rattle.obq_windows.specs.Values.{ClosureValue, ExceptionValue, IntValue, LocationValue, OkayValue, PlainValue, Table, TextValue, ThreadValue, TruthValue}
 use Rattle.obq_windows.specs.Windows.{Activation, NodeAct, NodeAfter, NodeChain, NodeCount, NodeFrame, NodeGuard, NodeHere, NodeRaising, NodeRight, NodeRun, NodeUnmet, NodeValue, Store, act_node, bind, binds_node, count_node, count_node_at, give_node_and, give_node_guard, give_node_if, give_node_left, give_node_or, give_node_raise, give_node_suffix, give_node_to, guards_node, next_count_node, node_at, node_moved, node_raises, operator_in, with_operator, with_suffix}
 use Rattle.obq_windows.proofs.Alike.{arms_alike, at_node, suffix_frames}

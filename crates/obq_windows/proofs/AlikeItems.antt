@@ -18,7 +18,9 @@ use Rattle.obq_model.proofs.Drafted.{drafted_expr, drafted_item}
 use Rattle.obq_model.proofs.Occurring.{captured_covered}
 use Rattle.obq_windows.specs.Agrees.{Agrees, FramesAre, IsBound, Same, StandsAt, place_at}
 use Rattle.obq_windows.specs.Complete.{PlaceLaw}
-use Rattle.obq_windows.specs.Trees.{Bound, ExprTask, HintItems, ItemsTask, PendingLet, PendingThen, Place, Silent, Stepped, Tag, TreeFrame, TreeMoved, TreeRun, TreeValue, begin_binds, begin_block, begin_expr, begin_items, begin_letrec, begin_rest, bound_names, bound_values, captured_values, letrec_parts, member_values, outside_at, push, tree_closed, tree_moved, tree_raises, with_bound}
+use Rattle.obq_windows.specs.Moves.{HintItems, begin_binds, begin_block, begin_expr, begin_items, begin_letrec, begin_rest, captured_values, letrec_parts, member_values, tree_closed}
+use Rattle.obq_windows.specs.Places.{Bound, Place, bound_names, bound_values, outside_at, with_bound}
+use Rattle.obq_windows.specs.Trees.{ExprTask, ItemsTask, PendingLet, PendingThen, Silent, Stepped, Tag, TreeFrame, TreeMoved, TreeRun, TreeValue, push, tree_moved, tree_raises}
 use Rattle.obq_windows.specs.Values.{ClosureValue, OkayValue, PlainValues, Table, depth_of_values}
 use Rattle.obq_windows.specs.Windows.{Activation, NodeFrame, NodeItems, NodeLet, NodeMoved, NodeRun, NodeThen, NodeValue, Store, begin_node, bind, binds_node, group_values, item_node, items_node, node_at, node_closed, node_moved, node_raises}
 use Rattle.obq_windows.proofs.Alike.{at_node, expr_alike, expr_head, item_plain}

@@ -12,7 +12,9 @@ use Rattle.obq_model.specs.Step.{Found, Frame, Needs, Next, Pending, Self, activ
 use Rattle.obq_model.specs.Terms.{Called, Choosing, Counting, End, Finally, Finishing, For, Form, If, Kind, Let, Looping, Part, Parts, Raise, Term, Then, Try}
 use Rattle.obq_model.proofs.Plug.{frames_append, needs_plug, plug_append, step_plug}
 use Rattle.obq_windows.specs.Meanings.{Means, Moves}
-use Rattle.obq_windows.specs.Trees.{Asks, Callee, PendingArguments, PendingCalled, PendingChain, PendingCount, PendingFirst, PendingForm, PendingGuard, PendingHead, PendingIf, PendingKept, PendingLast, PendingLet, PendingLoop, PendingRaise, PendingRight, PendingThen, PendingTo, PendingTry, Place, PlainOperation, Silent, Stepped, Tag, ToArray, ToBuiltin, ToCall, ToIndex, ToInvoke, TreeAct, TreeAfter, TreeFocus, TreeFrame, TreeMoved, callee_frame, env_at, expr_at, exprs_at, focus_term, frames_of, link_frame, linked_kind, links_around, names_at, outside_at, pending_frames, push, read_operation, scope_after, suffix_frame, suffixes_around, term_of, tree_moved, with_links, with_suffixes, writer_at}
+use Rattle.obq_windows.specs.Moves.{with_links, with_suffixes}
+use Rattle.obq_windows.specs.Places.{Place, env_at, outside_at, writer_at}
+use Rattle.obq_windows.specs.Trees.{Asks, Callee, PendingArguments, PendingCalled, PendingChain, PendingCount, PendingFirst, PendingForm, PendingGuard, PendingHead, PendingIf, PendingKept, PendingLast, PendingLet, PendingLoop, PendingRaise, PendingRight, PendingThen, PendingTo, PendingTry, PlainOperation, Silent, Stepped, Tag, ToArray, ToBuiltin, ToCall, ToIndex, ToInvoke, TreeAct, TreeAfter, TreeFocus, TreeFrame, TreeMoved, callee_frame, expr_at, exprs_at, focus_term, frames_of, link_frame, linked_kind, links_around, names_at, pending_frames, push, read_operation, scope_after, suffix_frame, suffixes_around, term_of, tree_moved}
 use Rattle.obq_windows.specs.Values.{PlainValue, Table}
 
 -- a frame whose hole is its first part

@@ -13,7 +13,10 @@ use Rattle.obq_model.specs.Store.{ArrayCell}
 use Rattle.obq_model.specs.Terms.{Apply, Array, Bytes, Call, Condition, End, Engine, Form, Index, Invoke, MakeArray, Object, Part, Parts, Term, Variable, Writer}
 use Rattle.obq_model.proofs.Plug.{activations_append, operands}
 use Rattle.obq_windows.specs.Meanings.{Moves}
-use Rattle.obq_windows.specs.Trees.{Beyond, Callee, Does, ExprTask, Gives, PendingArguments, PendingCalled, PendingChain, PendingCount, PendingFirst, PendingForm, PendingGuard, PendingHead, PendingIf, PendingKept, PendingLast, PendingLet, PendingLoop, PendingRaise, PendingRight, PendingThen, PendingTo, PendingTry, Place, PlainInvoke, PlainNewArray, PlainResult, Raises, Silent, Stepped, ToArray, ToBuiltin, ToCall, ToIndex, ToInvoke, TreeFrame, TreeHere, TreeMoved, TreeRun, TreeValue, applied, array_made, begin_args, call_code, call_plain, callee_frame, count_activations, expr_at, exprs_at, finish_args, frames_of, indexed, invoked, is_activation, link_frame, links_around, pending_frames, push, suffix_frame, suffixes_around, tree_moved, tree_raises, tree_result, with_suffixes}
+use Rattle.obq_windows.specs.Moves.{begin_args, call_code, call_plain, count_activations, finish_args, is_activation, tree_result, with_suffixes}
+use Rattle.obq_windows.specs.Places.{Place}
+use Rattle.obq_windows.specs.Results.{Beyond, Does, Gives, PlainResult, Raises, applied, array_made, indexed, invoked}
+use Rattle.obq_windows.specs.Trees.{Callee, ExprTask, PendingArguments, PendingCalled, PendingChain, PendingCount, PendingFirst, PendingForm, PendingGuard, PendingHead, PendingIf, PendingKept, PendingLast, PendingLet, PendingLoop, PendingRaise, PendingRight, PendingThen, PendingTo, PendingTry, PlainInvoke, PlainNewArray, Silent, Stepped, ToArray, ToBuiltin, ToCall, ToIndex, ToInvoke, TreeFrame, TreeHere, TreeMoved, TreeRun, TreeValue, callee_frame, expr_at, exprs_at, frames_of, link_frame, links_around, pending_frames, push, suffix_frame, suffixes_around, tree_moved, tree_raises}
 use Rattle.obq_windows.specs.Values.{ClosureValue, ExceptionValue, IntValue, IsMadeTable, LocationValue, OkayValue, PlainValue, Table, TextValue, ThreadValue, TruthValue, closure_of, proc_named, proc_of, read_all, read_value, read_values}
 use Rattle.obq_windows.proofs.Around.{asks, found_in, pushed, silent, to_here}
 use Rattle.obq_windows.proofs.BuiltIns.{applied_is}

@@ -5,7 +5,8 @@ use Rattle.std.proofs.lemmas.List.{take_all}
 use Rattle.obq_base.specs.Tree.{AnItem, NoItems}
 use Rattle.obq_model.specs.Effect.{kept}
 use Rattle.obq_windows.specs.Agrees.{FrameIs, FramesAre, IsBound, PlaceIs, act_behind, height_behind}
-use Rattle.obq_windows.specs.Trees.{Bound, PendingArguments, PendingCalled, PendingChain, PendingCount, PendingFirst, PendingForm, PendingGuard, PendingHead, PendingIf, PendingKept, PendingLast, PendingLet, PendingLoop, PendingRaise, PendingRight, PendingThen, PendingTo, PendingTry, Place, TreeFrame, bound_values}
+use Rattle.obq_windows.specs.Places.{Bound, Place, bound_values}
+use Rattle.obq_windows.specs.Trees.{PendingArguments, PendingCalled, PendingChain, PendingCount, PendingFirst, PendingForm, PendingGuard, PendingHead, PendingIf, PendingKept, PendingLast, PendingLet, PendingLoop, PendingRaise, PendingRight, PendingThen, PendingTo, PendingTry, TreeFrame}
 use Rattle.obq_windows.specs.Values.{PlainValue, Table}
 use Rattle.obq_windows.specs.Windows.{Activation, NodeArguments, NodeCalled, NodeChain, NodeCount, NodeFirst, NodeFrame, NodeGuard, NodeHead, NodeIf, NodeKept, NodeLast, NodeLet, NodeLoop, NodeRaise, NodeRight, NodeThen, NodeTo, NodeTry, Store, bind}
 

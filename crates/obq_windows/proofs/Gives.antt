@@ -14,7 +14,10 @@ use Rattle.obq_model.specs.Terms.{AndIf, Apply, Array, Bytes, Call, Choosing, Co
 use Rattle.obq_model.proofs.Plug.{plug_append}
 use Rattle.obq_model.proofs.PutRead.{put_read}
 use Rattle.obq_windows.specs.Meanings.{Moves}
-use Rattle.obq_windows.specs.Trees.{BlockTask, Callee, ExprTask, KeptRaising, KeptValue, PendingArguments, PendingCalled, PendingChain, PendingCount, PendingFirst, PendingForm, PendingGuard, PendingHead, PendingIf, PendingKept, PendingLast, PendingLet, PendingLoop, PendingRaise, PendingRight, PendingThen, PendingTo, PendingTry, Place, PlainGet, Silent, Stepped, ToArray, ToBuiltin, ToCall, ToIndex, ToInvoke, TreeFrame, TreeHere, TreeRaising, TreeRun, TreeUnmet, TreeValue, arms_at, begin_args, begin_arms, begin_binds, begin_count, begin_if, begin_rest, bind_of, block_at, callee_frame, count_activations, count_at, env_at, expr_at, exprs_at, frames_of, give_and, give_guard, give_if, give_left, give_or, give_pending, give_raise, give_suffix, give_to, going_on, if_at, let_at, link_frame, linked_kind, links_around, names_at, next_count, operated, outside_at, pending_frames, push, scope_at, suffix_frame, suffixes_around, tree_moved, tree_raises, tree_result, with_bound, with_links, with_suffixes, writer_at}
+use Rattle.obq_windows.specs.Moves.{begin_args, begin_arms, begin_binds, begin_count, begin_if, begin_rest, count_activations, count_at, give_and, give_guard, give_if, give_left, give_or, give_pending, give_raise, give_suffix, give_to, going_on, next_count, tree_result, with_links, with_suffixes}
+use Rattle.obq_windows.specs.Places.{Place, bind_of, env_at, outside_at, with_bound, writer_at}
+use Rattle.obq_windows.specs.Results.{operated}
+use Rattle.obq_windows.specs.Trees.{BlockTask, Callee, ExprTask, KeptRaising, KeptValue, PendingArguments, PendingCalled, PendingChain, PendingCount, PendingFirst, PendingForm, PendingGuard, PendingHead, PendingIf, PendingKept, PendingLast, PendingLet, PendingLoop, PendingRaise, PendingRight, PendingThen, PendingTo, PendingTry, PlainGet, Silent, Stepped, ToArray, ToBuiltin, ToCall, ToIndex, ToInvoke, TreeFrame, TreeHere, TreeRaising, TreeRun, TreeUnmet, TreeValue, arms_at, block_at, callee_frame, expr_at, exprs_at, frames_of, if_at, let_at, link_frame, linked_kind, links_around, names_at, pending_frames, push, scope_at, suffix_frame, suffixes_around, tree_moved, tree_raises}
 use Rattle.obq_windows.specs.Values.{ClosureValue, ExceptionValue, IntValue, IsMadeTable, LocationValue, OkayValue, PlainValue, Table, TextValue, ThreadValue, TruthValue, proc_of, read_all, read_value, read_values}
 use Rattle.obq_windows.proofs.Around.{asks, found_in, links_frames, pushed, silent, stepped, suffixes_frames, to_here, to_pushed}
 use Rattle.obq_windows.proofs.Begins.{args_right, callee_form, of_term, result_right, suffix_args}

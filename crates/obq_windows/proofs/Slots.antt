@@ -17,7 +17,9 @@ use Rattle.obq_model.proofs.Drafted.{Drafted}
 use Rattle.obq_model.proofs.Places.{among_place, or_else, place_below, place_found}
 use Rattle.obq_model.proofs.Skips.{ends}
 use Rattle.obq_windows.specs.Agrees.{Agrees, FocusIs, FramesAre, IsBound, Same, StandsAt, place_at}
-use Rattle.obq_windows.specs.Trees.{Bound, Tag, TreeFocus, TreeFrame, begin_name, bound_names, bound_values, captured_values, last_bound, member_at, or_this, outside_at, proc_group, proc_outside, tree_moved, used, value_of, value_or_okay}
+use Rattle.obq_windows.specs.Moves.{begin_name, captured_values, used, value_or_okay}
+use Rattle.obq_windows.specs.Places.{Bound, bound_names, bound_values, last_bound, member_at, or_this, outside_at, proc_group, proc_outside, value_of}
+use Rattle.obq_windows.specs.Trees.{Tag, TreeFocus, TreeFrame, tree_moved}
 use Rattle.obq_windows.specs.Values.{AValue, ClosureValue, ExceptionValue, IntValue, LocationValue, OkayValue, PlainValue, Table, TextValue, ThreadValue, TruthValue, captured_at}
 use Rattle.obq_windows.specs.Windows.{Activation, NodeFocus, NodeFrame, NodeHere, NodeMoved, NodeValue, Store, capture, node_at, node_moved, slot_value, use_node, use_slot}
 use Rattle.obq_windows.proofs.Lists.{behind_here, item_here, take_get}

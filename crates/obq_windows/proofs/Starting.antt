@@ -12,7 +12,9 @@ use Rattle.obq_model.specs.Step.{Self, activations_at, find, plug, self_at}
 use Rattle.obq_model.specs.Terms.{Apply, Array, Bytes, Condition, Const, Engine, ExitUp, Form, Let, Loc, Name, Object, Term, Variable, Writer}
 use Rattle.obq_model.proofs.Plug.{plug_append}
 use Rattle.obq_windows.specs.Meanings.{Moves}
-use Rattle.obq_windows.specs.Trees.{BlockTask, ExprTask, HintExpr, HintItems, HintTask, ItemsTask, PendingFirst, PendingHead, PendingIf, PendingLast, PendingLet, PendingLoop, PendingRaise, PendingThen, PendingTry, Place, PlainRead, Silent, Tag, Task, ToArray, ToBuiltin, TreeFrame, TreeHere, TreeRaising, TreeRun, TreeValue, begin_args, begin_binds, begin_block, begin_expr, begin_if, begin_items, begin_name, begin_suffixes, begin_task, block_at, count_activations, env_at, expr_at, exprs_at, frames_of, going_on, if_at, items_at, links_around, names_at, outside_at, pending_frames, push, suffixes_around, task_term, tree_moved, tree_raises, used, value_of, with_suffixes, writer_at}
+use Rattle.obq_windows.specs.Moves.{HintExpr, HintItems, HintTask, begin_args, begin_binds, begin_block, begin_expr, begin_if, begin_items, begin_name, begin_suffixes, begin_task, count_activations, going_on, used, with_suffixes}
+use Rattle.obq_windows.specs.Places.{Place, env_at, outside_at, value_of, writer_at}
+use Rattle.obq_windows.specs.Trees.{BlockTask, ExprTask, ItemsTask, PendingFirst, PendingHead, PendingIf, PendingLast, PendingLet, PendingLoop, PendingRaise, PendingThen, PendingTry, PlainRead, Silent, Tag, Task, ToArray, ToBuiltin, TreeFrame, TreeHere, TreeRaising, TreeRun, TreeValue, block_at, expr_at, exprs_at, frames_of, if_at, items_at, links_around, names_at, pending_frames, push, suffixes_around, task_term, tree_moved, tree_raises}
 use Rattle.obq_windows.specs.Values.{ClosureValue, ExceptionValue, IntValue, IsMadeTable, LocationValue, OkayValue, PlainValue, Table, TextValue, ThreadValue, TruthValue, proc_of, read_value, read_values}
 use Rattle.obq_windows.proofs.Around.{Starts, asks, chain_read, here, links_frames, pushed, silent, suffixes_frames, suffixes_read, to_here, to_pushed}
 use Rattle.obq_windows.proofs.Begins.{args_right, of_term, suffix_args}
