@@ -11,14 +11,14 @@ use Rattle.obq_model.specs.Occurrences.{bind_names}
 use Rattle.obq_model.specs.Terms.{Apply, Array, Bytes, Condition, Engine, Index, Invoke, Object, Select, Variable, Writer}
 use Rattle.obq_model.proofs.Drafted.{drafted_block, drafted_expr, drafted_suffix}
 use Rattle.obq_windows.specs.Agrees.{AfterIs, Agrees, FramesAre, IsBound, Same, StandsAt, place_at}
-use Rattle.obq_windows.specs.Moves.{begin_arms, begin_binds, begin_count, count_at, give_and, give_guard, give_if, give_left, give_or, give_raise, give_suffix, give_to, next_count, tree_act, with_links, with_suffixes}
+use Rattle.obq_windows.specs.Moves.{begin_arms, begin_binds, begin_count, begin_vars, count_at, give_and, give_guard, give_if, give_left, give_or, give_raise, give_suffix, give_to, next_count, tree_act, with_links, with_suffixes}
 use Rattle.obq_windows.specs.Places.{Bound, bind_of, bound_names, outside_at, with_bound}
 use Rattle.obq_windows.specs.Trees.{Asks, BlockTask, ExprTask, Kept, KeptRaising, KeptValue, PendingChain, PendingCount, PendingGuard, PendingRight, PlainGet, PlainOperation, Silent, Stepped, ToCall, ToIndex, ToInvoke, TreeAct, TreeAfter, TreeFrame, TreeHere, TreeRaising, TreeRun, TreeUnmet, TreeValue, push, tree_moved, tree_raises}
 use Rattle.obq_windows.specs.Values.{ClosureValue, ExceptionValue, IntValue, LocationValue, OkayValue, PlainValue, Table, TextValue, ThreadValue, TruthValue}
-use Rattle.obq_windows.specs.Windows.{Activation, NodeAct, NodeAfter, NodeChain, NodeCount, NodeFrame, NodeGuard, NodeHere, NodeRaising, NodeRight, NodeRun, NodeUnmet, NodeValue, Store, act_node, bind, binds_node, count_node, count_node_at, give_node_and, give_node_guard, give_node_if, give_node_left, give_node_or, give_node_raise, give_node_suffix, give_node_to, guards_node, next_count_node, node_at, node_moved, node_raises, operator_in, with_operator, with_suffix}
+use Rattle.obq_windows.specs.Windows.{Activation, NodeAct, NodeAfter, NodeChain, NodeCount, NodeFrame, NodeGuard, NodeHere, NodeRaising, NodeRight, NodeRun, NodeUnmet, NodeValue, Store, act_node, bind, binds_node, count_node, count_node_at, give_node_and, give_node_guard, give_node_if, give_node_left, give_node_or, give_node_raise, give_node_suffix, give_node_to, guards_node, next_count_node, node_at, node_moved, node_raises, operator_in, vars_node, with_operator, with_suffix}
 use Rattle.obq_windows.proofs.Alike.{arms_alike, at_node, suffix_frames}
 use Rattle.obq_windows.proofs.AlikeCalls.{args_alike}
-use Rattle.obq_windows.proofs.AlikeItems.{binds_alike, respelled}
+use Rattle.obq_windows.proofs.AlikeItems.{binds_alike, respelled, vars_alike}
 use Rattle.obq_windows.proofs.Envs.{names_more}
 use Rattle.obq_windows.proofs.Frames.{bound_all, frames_kept, frames_up, place_kept}
 use Rattle.obq_windows.proofs.Lists.{behind_here, item_here, past_end}
@@ -36,6 +36,17 @@ pub let_alike : {R : Type 0} → (T : Table R) (S : Store R) → Agrees T S → 
     → Same T S (binds_node S Stepped (bind act b (v ∷ [])) ns child (count_binds bs) at (count_items is) (suc b)) (begin_binds Stepped (with_bound (place_at act bound) (bind_of x v ∷ [])) bs is fs)
 let_alike T S g act b bound w ns fs fr child at x bs is v h k =
     binds_alike T S g Stepped (bind act b (v ∷ [])) (suc b) (bound ++ bind_of x v ∷ []) (bound_more_is act b bound x v w) ns fs (frames_up T S (bind act b (v ∷ [])) b (suc b) ns fs (one_more b) (frames_kept T S act b b (v ∷ []) ns fs (not_above b) fr)) child at bs is
+    (respelled (λ z. draft_binds (outside_at T (place_at act bound)) z bs) _ _ (sym (names_more bound x v)) h)
+    (respelled (λ z. draft_items (outside_at T (place_at act bound)) (z ++ bind_names bs) is) _ _ (sym (names_more bound x v)) k) where
+      one_more : (n : ℕ) → n ≤ suc n
+      one_more n = omega arith
+
+-- the same of a variable
+pub var_alike : {R : Type 0} → (T : Table R) (S : Store R) → Agrees T S → (act : Activation R) (b : ℕ) (bound : List (Bound R)) → IsBound act b bound → (ns : List (NodeFrame R)) (fs : List (TreeFrame R)) → FramesAre T S act b ns fs → (child at : ℕ) (x : Bytes) (bs : BindTrees) (is : ItemTrees) (v : PlainValue R)
+    → StandsAt T S act.code (draft_binds (outside_at T (place_at act bound)) (bound_names bound ++ x ∷ []) bs) child → StandsAt T S act.code (draft_items (outside_at T (place_at act bound)) ((bound_names bound ++ x ∷ []) ++ bind_names bs) is) at
+    → Same T S (vars_node S Silent (bind act b (v ∷ [])) ns child (count_binds bs) at (count_items is) (suc b)) (begin_vars Silent (with_bound (place_at act bound) (bind_of x v ∷ [])) bs is fs)
+var_alike T S g act b bound w ns fs fr child at x bs is v h k =
+    vars_alike T S g Silent (bind act b (v ∷ [])) (suc b) (bound ++ bind_of x v ∷ []) (bound_more_is act b bound x v w) ns fs (frames_up T S (bind act b (v ∷ [])) b (suc b) ns fs (one_more b) (frames_kept T S act b b (v ∷ []) ns fs (not_above b) fr)) child at bs is
     (respelled (λ z. draft_binds (outside_at T (place_at act bound)) z bs) _ _ (sym (names_more bound x v)) h)
     (respelled (λ z. draft_items (outside_at T (place_at act bound)) (z ++ bind_names bs) is) _ _ (sym (names_more bound x v)) k) where
       one_more : (n : ℕ) → n ≤ suc n

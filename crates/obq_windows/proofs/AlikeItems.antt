@@ -18,11 +18,11 @@ use Rattle.obq_model.proofs.Drafted.{drafted_expr, drafted_item}
 use Rattle.obq_model.proofs.Occurring.{captured_covered}
 use Rattle.obq_windows.specs.Agrees.{Agrees, FramesAre, IsBound, Same, StandsAt, place_at}
 use Rattle.obq_windows.specs.Complete.{PlaceLaw}
-use Rattle.obq_windows.specs.Moves.{HintItems, begin_binds, begin_block, begin_expr, begin_items, begin_letrec, begin_rest, captured_values, letrec_parts, member_values, tree_closed}
+use Rattle.obq_windows.specs.Moves.{HintItems, begin_binds, begin_block, begin_expr, begin_items, begin_letrec, begin_rest, begin_vars, captured_values, letrec_parts, member_values, tree_closed}
 use Rattle.obq_windows.specs.Places.{Bound, Place, bound_names, bound_values, outside_at, with_bound}
-use Rattle.obq_windows.specs.Trees.{ExprTask, ItemsTask, PendingLet, PendingThen, Silent, Stepped, Tag, TreeFrame, TreeMoved, TreeRun, TreeValue, push, tree_moved, tree_raises}
+use Rattle.obq_windows.specs.Trees.{ExprTask, ItemsTask, PendingLet, PendingThen, PendingVar, Silent, Stepped, Tag, TreeFrame, TreeMoved, TreeRun, TreeValue, push, tree_moved, tree_raises}
 use Rattle.obq_windows.specs.Values.{ClosureValue, OkayValue, PlainValues, Table, depth_of_values}
-use Rattle.obq_windows.specs.Windows.{Activation, NodeFrame, NodeItems, NodeLet, NodeMoved, NodeRun, NodeThen, NodeValue, Store, begin_node, bind, binds_node, group_values, item_node, items_node, node_at, node_closed, node_moved, node_raises}
+use Rattle.obq_windows.specs.Windows.{Activation, NodeFrame, NodeItems, NodeLet, NodeMoved, NodeRun, NodeThen, NodeValue, NodeVar, Store, begin_node, bind, binds_node, group_values, item_node, items_node, node_at, node_closed, node_moved, node_raises, vars_node}
 use Rattle.obq_windows.proofs.Alike.{at_node, expr_alike, expr_head, item_plain}
 use Rattle.obq_windows.proofs.Closing.{member_bound_names, names_append}
 use Rattle.obq_windows.proofs.Frames.{bound_all, frames_kept, frames_up}
@@ -48,6 +48,30 @@ binds_alike T S g tag act b bound w ns fs fr child at NoBinds is h k =
 binds_alike T S g tag act b bound w ns fs fr child at (ABind x e place bs) is h k =
     alike T S tag act b (NodeLet (S.end act.code child) (count_binds bs) at (count_items is) b ∷ ns) (NodeRun child b) (push (place_at act bound) (PendingLet x bs is) fs) (TreeRun (place_at act bound) (ExprTask e)) (
       NodeLet (S.end act.code child) (count_binds bs) at (count_items is) b,
+      ns,
+      refl,
+      (
+        S.end act.code child,
+        at,
+        b,
+        refl,
+        not_above b,
+        (bound, refl, w),
+        second_of T S g (drafted_expr _ _ e) h,
+        respelled (λ z. draft_items (outside_at T (place_at act bound)) z is) _ _ (sym (append_assoc (bound_names bound) (x ∷ []) (bind_names bs))) k,
+      ),
+      fr,
+    )
+    (child, refl, (bound, refl, w), first_of T S h)
+
+pub vars_alike : {R : Type 0} → (T : Table R) (S : Store R) → Agrees T S → (tag : Tag R) (act : Activation R) (b : ℕ) (bound : List (Bound R)) → IsBound act b bound → (ns : List (NodeFrame R)) (fs : List (TreeFrame R)) → FramesAre T S act b ns fs → (child at : ℕ) (bs : BindTrees) (is : ItemTrees)
+    → StandsAt T S act.code (draft_binds (outside_at T (place_at act bound)) (bound_names bound) bs) child → StandsAt T S act.code (draft_items (outside_at T (place_at act bound)) (bound_names bound ++ bind_names bs) is) at
+    → Same T S (vars_node S tag act ns child (count_binds bs) at (count_items is) b) (begin_vars tag (place_at act bound) bs is fs)
+vars_alike T S g tag act b bound w ns fs fr child at NoBinds is h k =
+    rest_alike T S tag act b bound w ns fs fr at is (respelled (λ z. draft_items (outside_at T (place_at act bound)) z is) _ _ (append-nil (bound_names bound)) k)
+vars_alike T S g tag act b bound w ns fs fr child at (ABind x e place bs) is h k =
+    alike T S tag act b (NodeVar (S.end act.code child) (count_binds bs) at (count_items is) b ∷ ns) (NodeRun child b) (push (place_at act bound) (PendingVar x bs is) fs) (TreeRun (place_at act bound) (ExprTask e)) (
+      NodeVar (S.end act.code child) (count_binds bs) at (count_items is) b,
       ns,
       refl,
       (
@@ -146,7 +170,12 @@ items_alike T S g a thread count act b bound d w ns fs fr at (LetItem bs place) 
 }
 items_alike T S g a thread count act b bound d w ns fs fr at (LetRecItem bs place) is h = record { numbers = (first_of T S h).nodes.0; hint = (first_of T S h).nodes.3; same = letrec_alike T S g a thread count act b bound d w ns fs fr at bs place is h }
 items_alike T S g a thread count act b bound d w ns fs fr at (PlainItem e) is h = plain_alike T S g a thread count act b bound d w ns fs fr at e is h
-items_alike T S g a thread count act b bound d w ns fs fr at (VarItem bs place) is h = record { numbers = []; hint = tt; same = at_node T S act.code at (n.Var (count_binds bs)) (item_node S a thread count act ns at (count_items is) b) _ (node_here T S (first_of T S h)) (inl (refl, refl)) }
+items_alike T S g a thread count act b bound d w ns fs fr at (VarItem bs place) is h = record {
+  numbers = [];
+  hint = tt;
+  same = at_node T S act.code at (n.Var (count_binds bs)) (item_node S a thread count act ns at (count_items is) b) _ (node_here T S (first_of T S h))
+      (vars_alike T S g Silent act b bound w ns fs fr (suc at) (S.end act.code at) bs is (next_here T S (first_of T S h)) (second_of T S g (drafted_item _ _ (VarItem bs place)) h));
+}
 items_alike T S g a thread count act b bound d w ns fs fr at (AssignItem x e place) is h = record { numbers = []; hint = tt; same = at_node T S act.code at (n.Assign (slot_of (outside_at T (place_at act bound)) (bound_names bound) x)) (item_node S a thread count act ns at (count_items is) b) _ (node_here T S (first_of T S h)) (inl (refl, refl)) }
 items_alike T S g a thread count act b bound d w ns fs fr at (FieldItem e x body place) is h = record { numbers = []; hint = tt; same = at_node T S act.code at (n.SetField x) (item_node S a thread count act ns at (count_items is) b) _ (node_here T S (first_of T S h)) (inl (refl, refl)) }
 items_alike T S g a thread count act b bound d w ns fs fr at (IndexItem e x i place) is h = record { numbers = []; hint = tt; same = at_node T S act.code at (n.SetItem) (item_node S a thread count act ns at (count_items is) b) _ (node_here T S (first_of T S h)) (inl (refl, refl)) }

@@ -1,19 +1,28 @@
 -- What an act leaves at its form.
-use Rattle.std.specs.Prelude.{List, None, Option, Some, is_some, refl, unwrap_or, ℕ, ◌≡◌}
-use Rattle.std.proofs.Common.{ap, subst, sym, ◌∙◌}
+use Rattle.std.specs.Prelude.{List, None, Option, Some, [], is_some, refl, suc, unwrap_or, ℕ, ◌++◌, ◌∷◌, ◌≡◌}
+use Rattle.std.proofs.Common.{ap, inl, inr, subst, sym, ◌∙◌}
 use Rattle.obq_base.specs.Tree.{AnItem, NoItems}
+use Rattle.obq_model.specs.Draft.{count_binds, count_items, draft_binds, draft_items}
+use Rattle.obq_model.specs.Occurrences.{bind_names}
+use Rattle.obq_model.specs.Put.{enter}
 use Rattle.obq_model.specs.Step.{Frame, Operation, find, plug}
-use Rattle.obq_model.specs.Terms.{Term}
+use Rattle.obq_model.specs.Terms.{Const, Okay, Term}
 use Rattle.obq_model.proofs.Among.{true_false}
 use Rattle.obq_windows.specs.Acts.{AnswerForm, AnswerRaising, AnswerValue, AnswersRead, CompleteAnswer, PlainAnswer, answer_node, answer_tree, left_by, value_at_node, value_at_tree}
-use Rattle.obq_windows.specs.Agrees.{AfterIs, Agrees, Alike, FocusIs, FramesAre}
+use Rattle.obq_windows.specs.Agrees.{AfterIs, Agrees, Alike, FocusIs, FramesAre, Same, StandsAt}
 use Rattle.obq_windows.specs.Complete.{CompleteAfter, CompleteFocus, CompleteFrames, CompleteOperation, IsComplete}
-use Rattle.obq_windows.specs.Trees.{BlockTask, ExprTask, ItemsTask, PlainBroadcast, PlainGet, PlainInvoke, PlainItemOf, PlainJoin, PlainNewArray, PlainNewCondition, PlainOperation, PlainRead, PlainSignal, PlainSize, PlainWrite, TreeAct, TreeAfter, TreeFocus, TreeFrame, TreeMoved, TreeRaising, TreeRun, TreeUnmet, TreeValue, frames_of, read_operation, scope_after, term_of}
-use Rattle.obq_windows.specs.Values.{PlainValue, Table}
-use Rattle.obq_windows.specs.Windows.{Activation, NodeAct, NodeAfter, NodeFocus, NodeFrame, NodeHere, NodeMoved, Store}
+use Rattle.obq_windows.specs.Moves.{begin_vars}
+use Rattle.obq_windows.specs.Places.{Place, bind_of, outside_at, with_bound}
+use Rattle.obq_windows.specs.Trees.{BlockTask, ExprTask, ItemsTask, PlainBroadcast, PlainGet, PlainInvoke, PlainItemOf, PlainJoin, PlainNewArray, PlainNewCondition, PlainNewVariable, PlainOperation, PlainRead, PlainSignal, PlainSize, PlainWrite, Silent, TreeAct, TreeAfter, TreeFocus, TreeFrame, TreeHere, TreeMoved, TreeRaising, TreeRun, TreeUnder, TreeUnmet, TreeValue, frames_of, names_at, read_operation, scope_after, term_of, tree_moved, vars_at}
+use Rattle.obq_windows.specs.Values.{OkayValue, PlainValue, Table, read_value}
+use Rattle.obq_windows.specs.Windows.{Activation, NodeAct, NodeAfter, NodeFocus, NodeFrame, NodeHere, NodeMoved, Store, bind, vars_node}
 use Rattle.obq_windows.proofs.Acts.{Asked, act_asks}
-use Rattle.obq_windows.proofs.Around.{are_frames}
-use Rattle.obq_windows.proofs.Keeps.{CompleteMoved}
+use Rattle.obq_windows.proofs.AlikeGives.{var_alike}
+use Rattle.obq_windows.proofs.Around.{are_frames, whole}
+use Rattle.obq_windows.proofs.Gives.{var_given}
+use Rattle.obq_windows.proofs.Keeps.{CompleteMoved, place_more, vars_kept}
+use Rattle.obq_windows.proofs.Running.{is_left_out}
+use Rattle.obq_windows.proofs.Starting.{vars_start}
 
 -- the operation of a focus, and where its answer goes
 abbrev operation_at : {R : Type 0} → NodeFocus R → Option (PlainOperation R)
@@ -53,6 +62,28 @@ record Answered {R : Type 0} (T : Table R) (S : Store R) (m : NodeMoved R) (t : 
   complete : CompleteMoved T t
   term : term_of T t.frames t.focus ≡ u
 
+-- what does the same and is not left out is alike
+of_same : {R : Type 0} → (T : Table R) (S : Store R) (m : NodeMoved R) (t : TreeMoved R) → t.tag ≡ Silent → Same T S m t → Alike T S m t
+of_same T S m t e (inl (q, k)) = absurd (true_false (ap is_left_out (sym k ∙ e)))
+of_same T S m t e (inr k) = k
+
+-- a new variable goes under its name
+variable_answered : {R : Type 0} → (T : Table R) (S : Store R) → Agrees T S → (act : Activation R) (b : ℕ) (ns : List (NodeFrame R)) (fs : List (TreeFrame R)) → FramesAre T S act b ns fs → CompleteFrames T fs → (u : PlainValue R) (na : NodeAfter) (after : TreeAfter R) → AfterIs T S act b na after → CompleteAfter T after
+    → (v : PlainValue R) → IsComplete T v → Answered T S (value_at_node S (PlainNewVariable u) na v act ns) (value_at_tree (PlainNewVariable u) after v fs) (plug (frames_of T fs) (enter (read_value T v ∷ []) (scope_after T after)))
+variable_answered {R} T S g act b ns fs fr k u na TreeHere h l v c =
+    subst (λ (z : NodeAfter). Answered T S (value_at_node S (PlainNewVariable u) z v act ns) (tree_moved Silent fs (TreeValue OkayValue)) (plug (frames_of T fs) (Const Okay))) (sym h)
+    (record { same = record { tag = refl; makes = refl; height = b; frames = fr; focus = refl }; complete = record { frames = k; focus = tt }; term = refl })
+variable_answered {R} T S g act b ns fs fr k u na (TreeUnder p x bs is) h l v c =
+    subst (λ (z : NodeAfter). Answered T S (value_at_node S (PlainNewVariable u) z v act ns) (begin_vars Silent (with_bound p (bind_of x v ∷ [])) bs is fs) (plug (frames_of T fs) (enter (read_value T v ∷ []) (vars_at T p x bs is)))) (sym h.2)
+    (record {
+      same = of_same T S _ _ (vars_start T fs Silent (with_bound p (bind_of x v ∷ [])) bs is).tag_is
+          (subst (λ (z : Place R). Same T S (vars_node S Silent (bind act b (v ∷ [])) ns h.0 (count_binds bs) h.1 (count_items is) (suc b)) (begin_vars Silent (with_bound z (bind_of x v ∷ [])) bs is fs)) (sym h.3.1)
+          (var_alike T S g act b h.3.0 h.3.2 ns fs fr h.0 h.1 x bs is v
+          (subst (λ (z : Place R). StandsAt T S z.code (draft_binds (outside_at T z) (names_at z ++ x ∷ []) bs) h.0) h.3.1 h.4) (subst (λ (z : Place R). StandsAt T S z.code (draft_items (outside_at T z) ((names_at z ++ x ∷ []) ++ bind_names bs) is) h.1) h.3.1 h.5)));
+      complete = vars_kept T Silent (with_bound p (bind_of x v ∷ [])) bs is fs (place_more T p (bind_of x v ∷ []) l (c, tt)) k;
+      term = sym (whole T fs _ _ _ (vars_start T fs Silent (with_bound p (bind_of x v ∷ [])) bs is).leads) ∙ ap (plug (frames_of T fs)) (sym (var_given T p x v bs is));
+    })
+
 value_answered : {R : Type 0} → (T : Table R) (S : Store R) → Agrees T S → (act : Activation R) (b : ℕ) (ns : List (NodeFrame R)) (fs : List (TreeFrame R)) → FramesAre T S act b ns fs → CompleteFrames T fs → (op : PlainOperation R) (na : NodeAfter) (after : TreeAfter R) → AfterIs T S act b na after → CompleteAfter T after
     → (v : PlainValue R) → IsComplete T v → Answered T S (value_at_node S op na v act ns) (value_at_tree op after v fs) (plug (frames_of T fs) (left_by T (read_operation T op (scope_after T after)) (AnswerValue v)))
 value_answered {R} T S g act b ns fs fr k (PlainGet o x) na after h l v c = record { same = record { tag = refl; makes = refl; height = b; frames = fr; focus = refl }; complete = record { frames = k; focus = c }; term = refl }
@@ -66,6 +97,7 @@ value_answered {R} T S g act b ns fs fr k PlainNewCondition na after h l v c = r
 value_answered {R} T S g act b ns fs fr k (PlainSignal x) na after h l v c = record { same = record { tag = refl; makes = refl; height = b; frames = fr; focus = refl }; complete = record { frames = k; focus = c }; term = refl }
 value_answered {R} T S g act b ns fs fr k (PlainBroadcast x) na after h l v c = record { same = record { tag = refl; makes = refl; height = b; frames = fr; focus = refl }; complete = record { frames = k; focus = c }; term = refl }
 value_answered {R} T S g act b ns fs fr k (PlainJoin t) na after h l v c = record { same = record { tag = refl; makes = refl; height = b; frames = fr; focus = refl }; complete = record { frames = k; focus = c }; term = refl }
+value_answered T S g act b ns fs fr k (PlainNewVariable u) na after h l v c = variable_answered T S g act b ns fs fr k u na after h l v c
 
 answered : {R : Type 0} → (T : Table R) (S : Store R) → Agrees T S → (act : Activation R) (b : ℕ) (ns : List (NodeFrame R)) (fs : List (TreeFrame R)) → FramesAre T S act b ns fs → CompleteFrames T fs → (op : PlainOperation R) (na : NodeAfter) (after : TreeAfter R) → AfterIs T S act b na after → CompleteAfter T after
     → (answer : PlainAnswer R) → CompleteAnswer T answer → Answered T S (answer_node S op na answer act ns) (answer_tree op after answer fs) (plug (frames_of T fs) (left_by T (read_operation T op (scope_after T after)) answer))

@@ -9,12 +9,12 @@ use Rattle.obq_model.specs.Opened.{open_chain, open_expr, open_suffix, open_suff
 use Rattle.obq_model.specs.Opening.{linked}
 use Rattle.obq_model.specs.Reading.{read}
 use Rattle.obq_model.specs.Step.{Found, Frame, Needs, Next, Pending, Self, activations_at, fill, find, is_operand, plug, self_at}
-use Rattle.obq_model.specs.Terms.{Called, Choosing, Counting, End, Finally, Finishing, For, Form, If, Kind, Let, Looping, Part, Parts, Raise, Term, Then, Try}
+use Rattle.obq_model.specs.Terms.{Called, Choosing, Counting, End, Finally, Finishing, For, Form, If, Kind, Let, Looping, Part, Parts, Raise, Term, Then, Try, Var}
 use Rattle.obq_model.proofs.Plug.{frames_append, needs_plug, plug_append, step_plug}
 use Rattle.obq_windows.specs.Meanings.{Means, Moves}
 use Rattle.obq_windows.specs.Moves.{with_links, with_suffixes}
 use Rattle.obq_windows.specs.Places.{Place, env_at, outside_at, writer_at}
-use Rattle.obq_windows.specs.Trees.{Asks, Callee, PendingArguments, PendingCalled, PendingChain, PendingCount, PendingFirst, PendingForm, PendingGuard, PendingHead, PendingIf, PendingKept, PendingLast, PendingLet, PendingLoop, PendingRaise, PendingRight, PendingThen, PendingTo, PendingTry, PlainOperation, Silent, Stepped, Tag, ToArray, ToBuiltin, ToCall, ToIndex, ToInvoke, TreeAct, TreeAfter, TreeFocus, TreeFrame, TreeMoved, callee_frame, expr_at, exprs_at, focus_term, frames_of, link_frame, linked_kind, links_around, names_at, pending_frames, push, read_operation, scope_after, suffix_frame, suffixes_around, term_of, tree_moved}
+use Rattle.obq_windows.specs.Trees.{Asks, Callee, PendingArguments, PendingCalled, PendingChain, PendingCount, PendingFirst, PendingForm, PendingGuard, PendingHead, PendingIf, PendingKept, PendingLast, PendingLet, PendingLoop, PendingRaise, PendingRight, PendingThen, PendingTo, PendingTry, PendingVar, PlainOperation, Silent, Stepped, Tag, ToArray, ToBuiltin, ToCall, ToIndex, ToInvoke, TreeAct, TreeAfter, TreeFocus, TreeFrame, TreeMoved, callee_frame, expr_at, exprs_at, focus_term, frames_of, link_frame, linked_kind, links_around, names_at, pending_frames, push, read_operation, scope_after, suffix_frame, suffixes_around, term_of, tree_moved}
 use Rattle.obq_windows.specs.Values.{PlainValue, Table}
 
 -- a frame whose hole is its first part
@@ -59,6 +59,7 @@ below_two (suc (suc i)) l = absurd (none i l) where
 pub pend_are_frames : {R : Type 0} → (T : Table R) (p : Place R) (pending : PendingForm R) → AreFrames (pending_frames T p pending)
 pend_are_frames {R} T p (PendingThen is) = (first_hole {R = R} Then End refl, tt)
 pend_are_frames {R} T p (PendingLet x bs is) = (first_hole {R = R} Let End refl, tt)
+pend_are_frames {R} T p (PendingVar x bs is) = (first_hole {R = R} Var End refl, tt)
 pend_are_frames {R} T p (PendingIf b arms last) = (first_hole {R = R} If End refl, tt)
 pend_are_frames T p (PendingChain op e links) = frames_append _ _ (links_are_frames T p links) (first_hole (linked_kind op) (Part (expr_at T p e) End) (linked_operand _ op), tt)
 pend_are_frames T p (PendingRight v op) = (λ i l. refl, tt)

@@ -16,7 +16,7 @@ use Rattle.obq_windows.specs.Meanings.{Moves}
 use Rattle.obq_windows.specs.Moves.{begin_args, call_code, call_plain, count_activations, finish_args, is_activation, tree_result, with_suffixes}
 use Rattle.obq_windows.specs.Places.{Place}
 use Rattle.obq_windows.specs.Results.{Beyond, Does, Gives, PlainResult, Raises, applied, array_made, indexed, invoked}
-use Rattle.obq_windows.specs.Trees.{Callee, ExprTask, PendingArguments, PendingCalled, PendingChain, PendingCount, PendingFirst, PendingForm, PendingGuard, PendingHead, PendingIf, PendingKept, PendingLast, PendingLet, PendingLoop, PendingRaise, PendingRight, PendingThen, PendingTo, PendingTry, PlainInvoke, PlainNewArray, Silent, Stepped, ToArray, ToBuiltin, ToCall, ToIndex, ToInvoke, TreeFrame, TreeHere, TreeMoved, TreeRun, TreeValue, callee_frame, expr_at, exprs_at, frames_of, link_frame, links_around, pending_frames, push, suffix_frame, suffixes_around, tree_moved, tree_raises}
+use Rattle.obq_windows.specs.Trees.{Callee, ExprTask, PendingArguments, PendingCalled, PendingChain, PendingCount, PendingFirst, PendingForm, PendingGuard, PendingHead, PendingIf, PendingKept, PendingLast, PendingLet, PendingLoop, PendingRaise, PendingRight, PendingThen, PendingTo, PendingTry, PendingVar, PlainInvoke, PlainNewArray, Silent, Stepped, ToArray, ToBuiltin, ToCall, ToIndex, ToInvoke, TreeFrame, TreeHere, TreeMoved, TreeRun, TreeValue, callee_frame, expr_at, exprs_at, frames_of, link_frame, links_around, pending_frames, push, suffix_frame, suffixes_around, tree_moved, tree_raises}
 use Rattle.obq_windows.specs.Values.{ClosureValue, ExceptionValue, IntValue, IsMadeTable, LocationValue, OkayValue, PlainValue, Table, TextValue, ThreadValue, TruthValue, closure_of, proc_named, proc_of, read_all, read_value, read_values}
 use Rattle.obq_windows.proofs.Around.{asks, found_in, pushed, silent, to_here}
 use Rattle.obq_windows.proofs.BuiltIns.{applied_is}
@@ -50,6 +50,7 @@ count_suffixes_around T a p (ASuffix s ss) = activations_append a (suffixes_arou
 count_pend : {R : Type 0} → (T : Table R) (a : ℕ) (p : Place R) (pending : PendingForm R) → activations_at a (pending_frames T p pending) ≡ (if is_activation pending then suc a else a)
 count_pend T a p (PendingThen is) = refl
 count_pend T a p (PendingLet x bs is) = refl
+count_pend T a p (PendingVar x bs is) = refl
 count_pend T a p (PendingIf b arms last) = refl
 count_pend T a p (PendingChain op e links) = count_links T a p (ALink op e 0 links)
 count_pend T a p (PendingRight v op) = refl

@@ -6,9 +6,9 @@ use Rattle.obq_base.specs.Tree.{AnItem, NoItems}
 use Rattle.obq_model.specs.Effect.{kept}
 use Rattle.obq_windows.specs.Agrees.{FrameIs, FramesAre, IsBound, PlaceIs, act_behind, height_behind}
 use Rattle.obq_windows.specs.Places.{Bound, Place, bound_values}
-use Rattle.obq_windows.specs.Trees.{PendingArguments, PendingCalled, PendingChain, PendingCount, PendingFirst, PendingForm, PendingGuard, PendingHead, PendingIf, PendingKept, PendingLast, PendingLet, PendingLoop, PendingRaise, PendingRight, PendingThen, PendingTo, PendingTry, TreeFrame}
+use Rattle.obq_windows.specs.Trees.{PendingArguments, PendingCalled, PendingChain, PendingCount, PendingFirst, PendingForm, PendingGuard, PendingHead, PendingIf, PendingKept, PendingLast, PendingLet, PendingLoop, PendingRaise, PendingRight, PendingThen, PendingTo, PendingTry, PendingVar, TreeFrame}
 use Rattle.obq_windows.specs.Values.{PlainValue, Table}
-use Rattle.obq_windows.specs.Windows.{Activation, NodeArguments, NodeCalled, NodeChain, NodeCount, NodeFirst, NodeFrame, NodeGuard, NodeHead, NodeIf, NodeKept, NodeLast, NodeLet, NodeLoop, NodeRaise, NodeRight, NodeThen, NodeTo, NodeTry, Store, bind}
+use Rattle.obq_windows.specs.Windows.{Activation, NodeArguments, NodeCalled, NodeChain, NodeCount, NodeFirst, NodeFrame, NodeGuard, NodeHead, NodeIf, NodeKept, NodeLast, NodeLet, NodeLoop, NodeRaise, NodeRight, NodeThen, NodeTo, NodeTry, NodeVar, Store, bind}
 
 -- ---- more binders in force
 
@@ -19,6 +19,7 @@ frame_up : {R : Type 0} → (T : Table R) (S : Store R) (act : Activation R) (b 
 frame_up T S act b c f p (PendingThen NoItems) l h = absurd h
 frame_up T S act b c f p (PendingThen (AnItem i is)) l h = (h.0, h.1, h.2, at_most _ b c h.3 l, h.4, h.5)
 frame_up T S act b c f p (PendingLet x bs is) l h = (h.0, h.1, h.2, h.3, at_most _ b c h.4 l, h.5, h.6, h.7)
+frame_up T S act b c f p (PendingVar x bs is) l h = (h.0, h.1, h.2, h.3, at_most _ b c h.4 l, h.5, h.6, h.7)
 frame_up T S act b c f p (PendingIf block arms last) l h = (h.0, h.1, h.2, at_most _ b c h.3 l, h.4, h.5)
 frame_up T S act b c f p (PendingChain op e links) l h = (h.0, h.1, h.2, h.3, h.4, at_most _ b c h.5 l, h.6, h.7, h.8, h.9, h.10)
 frame_up T S act b c f p (PendingRight v op) l h = h
@@ -38,6 +39,7 @@ frame_up T S act b c f p (PendingCount i n x block) l h = (h.0, h.1, h.2, at_mos
 heights : {R : Type 0} → (b c : ℕ) (f : NodeFrame R) → (height_behind b f ≡ height_behind c f) ⊎ ((height_behind b f ≡ b) × (c ≡ height_behind c f))
 heights b c (NodeThen at left h) = inl refl
 heights b c (NodeLet child left at items h) = inl refl
+heights b c (NodeVar child left at items h) = inl refl
 heights b c (NodeIf child arms last h) = inl refl
 heights b c (NodeChain chain index child h) = inl refl
 heights b c (NodeRight v op) = inr (refl, refl)
@@ -90,6 +92,7 @@ frame_kept : {R : Type 0} → (T : Table R) (S : Store R) (act : Activation R) (
 frame_kept T S act b h vs f p (PendingThen NoItems) l k = absurd k
 frame_kept T S act b h vs f p (PendingThen (AnItem i is)) l k = (k.0, k.1, k.2, k.3, place_kept act _ h vs p (at_most _ b h k.3 l) k.4, k.5)
 frame_kept T S act b h vs f p (PendingLet x bs is) l k = (k.0, k.1, k.2, k.3, k.4, place_kept act _ h vs p (at_most _ b h k.4 l) k.5, k.6, k.7)
+frame_kept T S act b h vs f p (PendingVar x bs is) l k = (k.0, k.1, k.2, k.3, k.4, place_kept act _ h vs p (at_most _ b h k.4 l) k.5, k.6, k.7)
 frame_kept T S act b h vs f p (PendingIf block arms last) l k = (k.0, k.1, k.2, k.3, place_kept act _ h vs p (at_most _ b h k.3 l) k.4, k.5)
 frame_kept T S act b h vs f p (PendingChain op e links) l k = (k.0, k.1, k.2, k.3, k.4, k.5, place_kept act _ h vs p (at_most _ b h k.5 l) k.6, k.7, k.8, k.9, k.10)
 frame_kept T S act b h vs f p (PendingRight v op) l k = k
@@ -111,6 +114,7 @@ frame_low : {R : Type 0} → (T : Table R) (S : Store R) (act : Activation R) (b
 frame_low T S act b f p (PendingThen NoItems) k = absurd k
 frame_low {R} T S act b f p (PendingThen (AnItem i is)) k = inl (subst (λ (z : NodeFrame R). height_behind b z ≤ b) (sym k.2) k.3)
 frame_low {R} T S act b f p (PendingLet x bs is) k = inl (subst (λ (z : NodeFrame R). height_behind b z ≤ b) (sym k.3) k.4)
+frame_low {R} T S act b f p (PendingVar x bs is) k = inl (subst (λ (z : NodeFrame R). height_behind b z ≤ b) (sym k.3) k.4)
 frame_low {R} T S act b f p (PendingIf block arms last) k = inl (subst (λ (z : NodeFrame R). height_behind b z ≤ b) (sym k.2) k.3)
 frame_low {R} T S act b f p (PendingChain op e links) k = inl (subst (λ (z : NodeFrame R). height_behind b z ≤ b) (sym k.4) k.5)
 frame_low {R} T S act b f p (PendingRight v op) k = inl (subst (λ (z : NodeFrame R). height_behind b z ≤ b) (sym k) (omega arith))
@@ -130,6 +134,7 @@ frame_low {R} T S act b f p (PendingCount i n x block) k = inl (subst (λ (z : N
 acts : {R : Type 0} → (act : Activation R) (h : ℕ) (vs : List (PlainValue R)) (f : NodeFrame R) → ((act_behind act f ≡ act) × (bind act h vs ≡ act_behind (bind act h vs) f)) ⊎ (act_behind act f ≡ act_behind (bind act h vs) f)
 acts act h vs (NodeThen at left hh) = inl (refl, refl)
 acts act h vs (NodeLet child left at items hh) = inl (refl, refl)
+acts act h vs (NodeVar child left at items hh) = inl (refl, refl)
 acts act h vs (NodeIf child arms last hh) = inl (refl, refl)
 acts act h vs (NodeChain chain index child hh) = inl (refl, refl)
 acts act h vs (NodeRight v op) = inl (refl, refl)

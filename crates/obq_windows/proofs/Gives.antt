@@ -10,14 +10,14 @@ use Rattle.obq_model.specs.Opened.{builtin_at, open_binds, open_block, open_item
 use Rattle.obq_model.specs.Put.{enter}
 use Rattle.obq_model.specs.Reading.{Env, hide, read}
 use Rattle.obq_model.specs.Step.{Frame, Next, Self, activations_at, choose, counting, fill, find, find_part, plug, self_at, values_before}
-use Rattle.obq_model.specs.Terms.{AndIf, Apply, Array, Bytes, Call, Choosing, Condition, Const, Counting, End, Engine, Exc, For, Form, If, Index, Int, Invoke, Let, MakeArray, Object, Okay, OrIf, Part, Parts, Raise, Select, Term, Truth, Try, Value, Variable, Writer}
+use Rattle.obq_model.specs.Terms.{AndIf, Apply, Array, Bytes, Call, Choosing, Condition, Const, Counting, End, Engine, Exc, For, Form, If, Index, Int, Invoke, Kind, Let, MakeArray, Object, Okay, OrIf, Part, Parts, Raise, Select, Term, Truth, Try, Under, Value, Var, Variable, Writer}
 use Rattle.obq_model.proofs.Plug.{plug_append}
 use Rattle.obq_model.proofs.PutRead.{put_read}
 use Rattle.obq_windows.specs.Meanings.{Moves}
 use Rattle.obq_windows.specs.Moves.{begin_args, begin_arms, begin_binds, begin_count, begin_if, begin_rest, count_activations, count_at, give_and, give_guard, give_if, give_left, give_or, give_pending, give_raise, give_suffix, give_to, going_on, next_count, tree_result, with_links, with_suffixes}
 use Rattle.obq_windows.specs.Places.{Place, bind_of, env_at, outside_at, with_bound, writer_at}
 use Rattle.obq_windows.specs.Results.{operated}
-use Rattle.obq_windows.specs.Trees.{BlockTask, Callee, ExprTask, KeptRaising, KeptValue, PendingArguments, PendingCalled, PendingChain, PendingCount, PendingFirst, PendingForm, PendingGuard, PendingHead, PendingIf, PendingKept, PendingLast, PendingLet, PendingLoop, PendingRaise, PendingRight, PendingThen, PendingTo, PendingTry, PlainGet, Silent, Stepped, ToArray, ToBuiltin, ToCall, ToIndex, ToInvoke, TreeFrame, TreeHere, TreeRaising, TreeRun, TreeUnmet, TreeValue, arms_at, block_at, callee_frame, expr_at, exprs_at, frames_of, if_at, let_at, link_frame, linked_kind, links_around, names_at, pending_frames, push, scope_at, suffix_frame, suffixes_around, tree_moved, tree_raises}
+use Rattle.obq_windows.specs.Trees.{Asks, BlockTask, Callee, ExprTask, KeptRaising, KeptValue, PendingArguments, PendingCalled, PendingChain, PendingCount, PendingFirst, PendingForm, PendingGuard, PendingHead, PendingIf, PendingKept, PendingLast, PendingLet, PendingLoop, PendingRaise, PendingRight, PendingThen, PendingTo, PendingTry, PendingVar, PlainGet, PlainNewVariable, Silent, Stepped, ToArray, ToBuiltin, ToCall, ToIndex, ToInvoke, TreeAct, TreeFrame, TreeHere, TreeRaising, TreeRun, TreeUnder, TreeUnmet, TreeValue, arms_at, block_at, callee_frame, expr_at, exprs_at, frames_of, if_at, let_at, link_frame, linked_kind, links_around, names_at, pending_frames, push, scope_at, suffix_frame, suffixes_around, tree_moved, tree_raises, vars_at}
 use Rattle.obq_windows.specs.Values.{ClosureValue, ExceptionValue, IntValue, IsMadeTable, LocationValue, OkayValue, PlainValue, Table, TextValue, ThreadValue, TruthValue, proc_of, read_all, read_value, read_values}
 use Rattle.obq_windows.proofs.Around.{asks, found_in, links_frames, pushed, silent, stepped, suffixes_frames, to_here, to_pushed}
 use Rattle.obq_windows.proofs.Begins.{args_right, callee_form, of_term, result_right, suffix_args}
@@ -25,7 +25,7 @@ use Rattle.obq_windows.proofs.Closing.{rest_starts}
 use Rattle.obq_windows.proofs.Envs.{bound_more, names_more}
 use Rattle.obq_windows.proofs.Operators.{operated_is}
 use Rattle.obq_windows.proofs.Results.{closure_cases}
-use Rattle.obq_windows.proofs.Starting.{binds_at, binds_start, if_starts}
+use Rattle.obq_windows.proofs.Starting.{binds_at, binds_start, if_starts, vars_from}
 
 -- the window with this frame is the frame's form around the value, inside of the others
 one_frame : {R : Type 0} → (T : Table R) (fs : List (TreeFrame R)) (gs : List (Frame R)) (t : Term R) → plug (frames_of T fs ++ gs) t ≡ plug (frames_of T fs) (plug gs t)
@@ -36,11 +36,19 @@ behind : {R : Type 0} → (T : Table R) (fs more : List (TreeFrame R)) (gs : Lis
 behind T fs more gs f t e =
     ap (λ l. plug l t) (sym (append_assoc (frames_of T fs) gs (f ∷ []))) ∙ plug_append (frames_of T fs ++ gs) (f ∷ []) t ∙ ap (λ l. plug l (fill f t)) (sym e)
 
+binds_given : {R : Type 0} → (k : Kind R) (T : Table R) (p : Place R) (x : Bytes) (v : PlainValue R) (bs : BindTrees) (is : ItemTrees)
+    → enter (read_value T v ∷ []) (read (env_at T p) (Under (x ∷ []) (open_binds k (writer_at T p) (outside_at T p) (names_at p ++ x ∷ []) bs (λ ns. open_items (writer_at T p) (outside_at T p) ns is))))
+    ≡ read (env_at T (with_bound p (bind_of x v ∷ []))) (open_binds k (writer_at T p) (outside_at T p) (names_at (with_bound p (bind_of x v ∷ []))) bs (λ ns. open_items (writer_at T p) (outside_at T p) ns is))
+binds_given {R} k T p x v bs is =
+    put_read (open_binds k (writer_at T p) (outside_at T p) (names_at p ++ x ∷ []) bs (λ ns. open_items (writer_at T p) (outside_at T p) ns is)) (hide (x ∷ []) (env_at T p)) (read_value T v) x
+    ∙ ap (λ (env : Env R). read env (open_binds k (writer_at T p) (outside_at T p) (names_at p ++ x ∷ []) bs (λ ns. open_items (writer_at T p) (outside_at T p) ns is))) (bound_more T p x v)
+    ∙ ap (λ (names : List Bytes). read (env_at T (with_bound p (bind_of x v ∷ []))) (open_binds k (writer_at T p) (outside_at T p) names bs (λ ns. open_items (writer_at T p) (outside_at T p) ns is))) (sym (names_more p.bound x v))
+
 let_given : {R : Type 0} → (T : Table R) (p : Place R) (x : Bytes) (v : PlainValue R) (bs : BindTrees) (is : ItemTrees) → enter (read_value T v ∷ []) (let_at T p x bs is) ≡ binds_at T (with_bound p (bind_of x v ∷ [])) bs is
-let_given {R} T p x v bs is =
-    put_read (open_binds Let (writer_at T p) (outside_at T p) (names_at p ++ x ∷ []) bs (λ ns. open_items (writer_at T p) (outside_at T p) ns is)) (hide (x ∷ []) (env_at T p)) (read_value T v) x
-    ∙ ap (λ (env : Env R). read env (open_binds Let (writer_at T p) (outside_at T p) (names_at p ++ x ∷ []) bs (λ ns. open_items (writer_at T p) (outside_at T p) ns is))) (bound_more T p x v)
-    ∙ ap (λ (names : List Bytes). read (env_at T (with_bound p (bind_of x v ∷ []))) (open_binds Let (writer_at T p) (outside_at T p) names bs (λ ns. open_items (writer_at T p) (outside_at T p) ns is))) (sym (names_more p.bound x v))
+let_given T p x v bs is = binds_given Let T p x v bs is
+
+pub var_given : {R : Type 0} → (T : Table R) (p : Place R) (x : Bytes) (v : PlainValue R) (bs : BindTrees) (is : ItemTrees) → enter (read_value T v ∷ []) (vars_at T p x bs is) ≡ vars_from T (with_bound p (bind_of x v ∷ [])) bs is
+var_given T p x v bs is = binds_given Var T p x v bs is
 
 raise_given : {R : Type 0} → (eq : R → R → Bool) (T : Table R) (a : ℕ) (s : Self R) (v : PlainValue R) (fs : List (TreeFrame R)) → Moves eq T a s (plug (frames_of T fs) (Form Raise (Part (Const (read_value T v)) End))) (give_raise v fs)
 raise_given eq T a s (IntValue z) fs = to_here eq T a s fs _ (tree_raises (codes "type")) refl
@@ -214,6 +222,7 @@ given eq T a s w v p (PendingThen is) fs = of_term eq T a s _ _ (begin_rest Step
 given eq T a s w v p (PendingLet x bs is) fs =
     of_term eq T a s _ _ (begin_binds Stepped (with_bound p (bind_of x v ∷ [])) bs is fs) (one_frame T fs _ _)
     (stepped eq T a s fs _ _ (begin_binds Stepped (with_bound p (bind_of x v ∷ [])) bs is fs) (ap Next (let_given T p x v bs is)) (binds_start T fs Stepped (with_bound p (bind_of x v ∷ [])) bs is))
+given eq T a s w v p (PendingVar x bs is) fs = of_term eq T a s _ _ (tree_moved (Asks (PlainNewVariable v)) fs (TreeAct (PlainNewVariable v) (TreeUnder p x bs is))) (one_frame T fs _ _) (asks eq T a s fs _ (PlainNewVariable v) (TreeUnder p x bs is) refl)
 given eq T a s w v p (PendingIf b arms last) fs = of_term eq T a s _ _ (give_if v p b arms last fs) (one_frame T fs _ _) (if_given eq T a s v p b arms last fs)
 given eq T a s w v p (PendingChain op e links) fs =
     of_term eq T a s _ _ (give_left v p op e links fs) (behind T fs (with_links p links fs) (links_around T p links) (link_frame T p op e) _ (links_frames T p links fs)) (left_given eq T a s v p op e links fs)

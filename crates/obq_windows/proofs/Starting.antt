@@ -1,7 +1,7 @@
 -- A task that begins.
 use Rattle.std.specs.Prelude.{Bool, List, None, Option, Some, [], codes, false, if◌then◌else◌, option_map, refl, true, ℕ, ◌≡◌}
 use Rattle.std.proofs.Common.{ap, sym, ◌∙◌}
-use Rattle.obq_base.specs.Tree.{ABind, ABlock, ASuffix, AnArm, AnItem, ApplySuffix, ArmTrees, ArrayTree, BindTrees, BlockOf, BlockTree, ChainTree, ExitTree, ExprTree, FinallyTree, ForTree, IfTree, IndexSuffix, IntTree, InvokeSuffix, ItemTrees, LetItem, LetRecItem, LinkTrees, LoopTree, MaybeBlock, NameTree, NoArms, NoBinds, NoBlock, NoItems, NoSuffixes, OkTree, PlainItem, ProcTree, RaiseTree, SelectSuffix, SuffixTrees, SuffixedTree, TextTree, TruthTree, TryTree}
+use Rattle.obq_base.specs.Tree.{ABind, ABlock, ASuffix, AnArm, AnItem, ApplySuffix, ArmTrees, ArrayTree, BindTrees, BlockOf, BlockTree, ChainTree, ExitTree, ExprTree, FinallyTree, ForTree, IfTree, IndexSuffix, IntTree, InvokeSuffix, ItemTrees, LetItem, LetRecItem, LinkTrees, LoopTree, MaybeBlock, NameTree, NoArms, NoBinds, NoBlock, NoItems, NoSuffixes, OkTree, PlainItem, ProcTree, RaiseTree, SelectSuffix, SuffixTrees, SuffixedTree, TextTree, TruthTree, TryTree, VarItem}
 use Rattle.obq_base.specs.declared.code.CodeNo.{CodeNo}
 use Rattle.obq_model.specs.Draft.{called_row}
 use Rattle.obq_model.specs.Opened.{builtin_at, open_binds, open_called, open_expr, open_exprs, open_items, open_suffixes}
@@ -9,12 +9,12 @@ use Rattle.obq_model.specs.Put.{occurrence}
 use Rattle.obq_model.specs.Reading.{name_or, read}
 use Rattle.obq_model.specs.Scopes.{is_covered}
 use Rattle.obq_model.specs.Step.{Self, activations_at, find, plug, self_at}
-use Rattle.obq_model.specs.Terms.{Apply, Array, Bytes, Condition, Const, Engine, ExitUp, Form, Let, Loc, Name, Object, Term, Variable, Writer}
+use Rattle.obq_model.specs.Terms.{Apply, Array, Bytes, Condition, Const, Engine, ExitUp, Form, Let, Loc, Name, Object, Term, Var, Variable, Writer}
 use Rattle.obq_model.proofs.Plug.{plug_append}
 use Rattle.obq_windows.specs.Meanings.{Moves}
-use Rattle.obq_windows.specs.Moves.{HintExpr, HintItems, HintTask, begin_args, begin_binds, begin_block, begin_expr, begin_if, begin_items, begin_name, begin_suffixes, begin_task, count_activations, going_on, used, with_suffixes}
+use Rattle.obq_windows.specs.Moves.{HintExpr, HintItems, HintTask, begin_args, begin_binds, begin_block, begin_expr, begin_if, begin_items, begin_name, begin_suffixes, begin_task, begin_vars, count_activations, going_on, used, with_suffixes}
 use Rattle.obq_windows.specs.Places.{Place, env_at, outside_at, value_of, writer_at}
-use Rattle.obq_windows.specs.Trees.{BlockTask, ExprTask, ItemsTask, PendingFirst, PendingHead, PendingIf, PendingLast, PendingLet, PendingLoop, PendingRaise, PendingThen, PendingTry, PlainRead, Silent, Tag, Task, ToArray, ToBuiltin, TreeFrame, TreeHere, TreeRaising, TreeRun, TreeValue, block_at, expr_at, exprs_at, frames_of, if_at, items_at, links_around, names_at, pending_frames, push, suffixes_around, task_term, tree_moved, tree_raises}
+use Rattle.obq_windows.specs.Trees.{BlockTask, ExprTask, ItemsTask, PendingFirst, PendingHead, PendingIf, PendingLast, PendingLet, PendingLoop, PendingRaise, PendingThen, PendingTry, PendingVar, PlainRead, Silent, Tag, Task, ToArray, ToBuiltin, TreeFrame, TreeHere, TreeRaising, TreeRun, TreeValue, block_at, expr_at, exprs_at, frames_of, if_at, items_at, links_around, names_at, pending_frames, push, suffixes_around, task_term, tree_moved, tree_raises}
 use Rattle.obq_windows.specs.Values.{ClosureValue, ExceptionValue, IntValue, IsMadeTable, LocationValue, OkayValue, PlainValue, Table, TextValue, ThreadValue, TruthValue, proc_of, read_value, read_values}
 use Rattle.obq_windows.proofs.Around.{Starts, asks, chain_read, here, links_frames, pushed, silent, suffixes_frames, suffixes_read, to_here, to_pushed}
 use Rattle.obq_windows.proofs.Begins.{args_right, of_term, suffix_args}
@@ -33,6 +33,14 @@ binds_at T p bs is = read (env_at T p) (open_binds Let (writer_at T p) (outside_
 pub binds_start : {R : Type 0} → (T : Table R) (fs : List (TreeFrame R)) (tag : Tag R) (p : Place R) (bs : BindTrees) (is : ItemTrees) → Starts T fs (binds_at T p bs is) tag (begin_binds tag p bs is fs)
 binds_start T fs tag p NoBinds is = rest_starts T fs tag p is
 binds_start T fs tag p (ABind x e place bs) is = record { tag_is = refl; leads = pushed T fs p (PendingLet x bs is) (TreeRun p (ExprTask e)) _ refl }
+
+-- the same of variables
+abbrev pub vars_from : {R : Type 0} → Table R → Place R → BindTrees → ItemTrees → Term R
+vars_from T p bs is = read (env_at T p) (open_binds Var (writer_at T p) (outside_at T p) (names_at p) bs (λ ns. open_items (writer_at T p) (outside_at T p) ns is))
+
+pub vars_start : {R : Type 0} → (T : Table R) (fs : List (TreeFrame R)) (tag : Tag R) (p : Place R) (bs : BindTrees) (is : ItemTrees) → Starts T fs (vars_from T p bs is) tag (begin_vars tag p bs is fs)
+vars_start T fs tag p NoBinds is = rest_starts T fs tag p is
+vars_start T fs tag p (ABind x e place bs) is = record { tag_is = refl; leads = pushed T fs p (PendingVar x bs is) (TreeRun p (ExprTask e)) _ refl }
 
 -- an operand that is followed by further operators
 pub chain_starts : {R : Type 0} → (T : Table R) (fs : List (TreeFrame R)) (tag : Tag R) (p : Place R) (links : LinkTrees) (e : ExprTree) → Starts T fs (plug (links_around T p links) (expr_at T p e)) tag (going_on tag p links e fs)
@@ -103,6 +111,7 @@ items_begin : {R : Type 0} → (eq : R → R → Bool) (T : Table R) (a : ℕ) (
     → Moves eq T a s (plug (frames_of T fs) (items_at T p is)) (begin_items T (count_activations a fs) thread count numbers p is fs)
 items_begin eq T a s w thread count numbers p NoItems fs h = tt
 items_begin eq T a s w thread count numbers p (AnItem (LetItem bs place) is) fs h = silent eq T a s fs _ (begin_binds Silent p bs is fs) (binds_start T fs Silent p bs is)
+items_begin eq T a s w thread count numbers p (AnItem (VarItem bs place) is) fs h = silent eq T a s fs _ (begin_vars Silent p bs is fs) (vars_start T fs Silent p bs is)
 items_begin eq T a s w thread count numbers p (AnItem (LetRecItem bs place) is) fs h = letrec_begins eq T a s w thread count numbers p bs place is fs h
 items_begin eq T a s w thread count numbers p (AnItem (PlainItem e) NoItems) fs h = expr_begins eq T a s w thread count numbers p e fs h
 items_begin eq T a s w thread count numbers p (AnItem (PlainItem e) (AnItem i is)) fs h =
