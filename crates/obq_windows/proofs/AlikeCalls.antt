@@ -6,7 +6,7 @@ use Rattle.obq_base.specs.declared.code.Code.{Code}
 use Rattle.obq_base.specs.declared.code.CodeNo.{CodeNo}
 use Rattle.obq_model.specs.Builtins.{arity_of_builtin}
 use Rattle.obq_model.specs.CodeLaws.{IsCodeAt, nodes_of}
-use Rattle.obq_model.specs.Draft.{count_exprs, draft_block, draft_exprs}
+use Rattle.obq_model.specs.Draft.{Both, Done, Draft, count_exprs, draft_block, draft_exprs}
 use Rattle.obq_model.specs.Opened.{builtin_at}
 use Rattle.obq_model.specs.Procedures.{Proc}
 use Rattle.obq_model.specs.Resolved.{IsCode}
@@ -16,8 +16,8 @@ use Rattle.obq_model.proofs.Drafted.{drafted_expr}
 use Rattle.obq_windows.specs.Agrees.{Agrees, FramesAre, IsBound, Same, StandsAt, place_at}
 use Rattle.obq_windows.specs.Moves.{begin_args, call_code, call_plain, entered, finish_args, tree_result}
 use Rattle.obq_windows.specs.Places.{Bound, bound_names, bound_values, outside_at, place_of, proc_outside, zipped}
-use Rattle.obq_windows.specs.Results.{Beyond, Does, Gives, PlainResult, Raises, applied, array_made, indexed, invoked}
-use Rattle.obq_windows.specs.Trees.{Asks, BlockTask, Callee, ExprTask, PendingArguments, PendingCalled, Silent, Stepped, ToArray, ToBuiltin, ToCall, ToIndex, ToInvoke, TreeAct, TreeFrame, TreeHere, TreeRun, TreeValue, push, tree_moved, tree_raises}
+use Rattle.obq_windows.specs.Results.{Beyond, Does, Gives, PlainResult, Raises, alias_set, applied, array_made, indexed, invoked, item_set, redirected, value_set}
+use Rattle.obq_windows.specs.Trees.{Asks, BlockTask, Callee, ExprTask, PendingArguments, PendingCalled, Silent, Stepped, ToArray, ToBuiltin, ToCall, ToIndex, ToInvoke, ToRedirect, ToSetAlias, ToSetIndex, ToSetValue, TreeAct, TreeFrame, TreeHere, TreeRun, TreeValue, push, tree_moved, tree_raises}
 use Rattle.obq_windows.specs.Values.{ClosureValue, ExceptionValue, IntValue, LocationValue, OkayValue, PlainValue, PlainValues, Table, TextValue, ThreadValue, TruthValue}
 use Rattle.obq_windows.specs.Windows.{Activation, NodeAct, NodeArguments, NodeCalled, NodeFrame, NodeHere, NodeRun, NodeValue, Store, activation_of, args_node, call_node_code, call_node_plain, enter_code, finish_node, node_moved, node_raises, node_result}
 use Rattle.obq_windows.proofs.Calls.{same_length}
@@ -125,6 +125,10 @@ finish_alike {R} T S g a act b bound w ns fs fr (ToBuiltin r) vs = by_arity (len
   by_arity false = alike T S Stepped act b ns (node_raises (codes "arity")) fs (tree_raises (codes "arity")) fr refl
 finish_alike T S g a act b bound w ns fs fr ToArray vs = result_alike T S act b ns fs fr (array_made vs)
 finish_alike T S g a act b bound w ns fs fr ToIndex vs = result_alike T S act b ns fs fr (indexed vs)
+finish_alike T S g a act b bound w ns fs fr ToSetIndex vs = result_alike T S act b ns fs fr (item_set vs)
+finish_alike T S g a act b bound w ns fs fr (ToSetValue x) vs = result_alike T S act b ns fs fr (value_set x vs)
+finish_alike T S g a act b bound w ns fs fr (ToSetAlias x y) vs = result_alike T S act b ns fs fr (alias_set x y vs)
+finish_alike T S g a act b bound w ns fs fr ToRedirect vs = result_alike T S act b ns fs fr (redirected vs)
 finish_alike T S g a act b bound w ns fs fr (ToInvoke x) vs = result_alike T S act b ns fs fr (invoked a x vs)
 
 pub args_alike : {R : Type 0} → (T : Table R) (S : Store R) → Agrees T S → (a : ℕ) (act : Activation R) (b : ℕ) (bound : List (Bound R)) → IsBound act b bound → (ns : List (NodeFrame R)) (fs : List (TreeFrame R)) → FramesAre T S act b ns fs → (callee : Callee R) (done : List (PlainValue R)) (child : ℕ) (es : ExprTrees)
@@ -135,3 +139,13 @@ args_alike T S g a act b bound w ns fs fr callee done child (AnExpr e es) h =
     alike T S Silent act b (NodeArguments callee done (S.end act.code child) (count_exprs es) b ∷ ns) (NodeRun child b) (push (place_at act bound) (PendingArguments callee done es) fs) (TreeRun (place_at act bound) (ExprTask e))
     (NodeArguments callee done (S.end act.code child) (count_exprs es) b, ns, refl, (S.end act.code child, b, refl, not_above b, (bound, refl, w), second_of T S g (drafted_expr _ _ e) h), fr)
     (child, refl, (bound, refl, w), first_of T S h)
+
+-- an expression, and two or three, as a list
+pub alone : {R : Type 0} (T : Table R) (S : Store R) {number : CodeNo} {d : Draft} {at : ℕ} → StandsAt T S number d at → StandsAt T S number (Both d Done) at
+alone T S h = record { rest = h.rest; nodes = (h.rest, h.nodes, refl) }
+
+pub as_pair : {R : Type 0} (T : Table R) (S : Store R) {number : CodeNo} {d e : Draft} {at : ℕ} → StandsAt T S number (Both d e) at → StandsAt T S number (Both d (Both e Done)) at
+as_pair T S h = record { rest = h.rest; nodes = (h.nodes.0, h.nodes.1, (h.rest, h.nodes.2, refl)) }
+
+pub as_triple : {R : Type 0} (T : Table R) (S : Store R) {number : CodeNo} {d e f : Draft} {at : ℕ} → StandsAt T S number (Both d (Both e f)) at → StandsAt T S number (Both d (Both e (Both f Done))) at
+as_triple T S h = record { rest = h.rest; nodes = (h.nodes.0, h.nodes.1, (h.nodes.2.0, h.nodes.2.1, (h.rest, h.nodes.2.2, refl))) }

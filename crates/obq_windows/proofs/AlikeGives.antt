@@ -1,23 +1,25 @@
 -- A value, and a raising, in a frame: nodes and trees do the same.
 use Rattle.std.specs.Prelude.{Bool, List, None, Option, Some, [], bytes_eq, codes, drop, false, if◌then◌else◌, int_lt, pos, refl, slice_get, suc, true, ℕ, ℤ, ◌++◌, ◌+ℤ◌, ◌+◌, ◌∷◌, ◌≡◌, ◌≤◌}
 use Rattle.obq_base.specs.declared.code.Node.TheVariants as n
-use Rattle.std.proofs.Common.{arith, subst, sym}
-use Rattle.obq_base.specs.Tree.{ALink, AnArm, AnExpr, ApplySuffix, ArmTrees, BindTrees, BlockTree, ExprTree, IndexSuffix, InvokeSuffix, ItemTrees, LinkTrees, MaybeBlock, NoArms, NoExprs, NoLinks, SelectSuffix, SuffixTree, SuffixTrees}
-use Rattle.obq_base.specs.declared.code.CodeNo.{CodeNo}
+use Rattle.std.proofs.Common.{ap, arith, inl, subst, sym, ◌∙◌}
+use Rattle.obq_base.specs.Tree.{ALink, AliasOf, AnArm, AnExpr, ApplySuffix, ArmTrees, BindTrees, BlockTree, ExprTree, FieldTree, IndexSuffix, InvokeSuffix, ItemTrees, LinkTrees, MaybeBlock, MethodOf, NoArms, NoExprs, NoLinks, SelectSuffix, SuffixTree, SuffixTrees, ValueOf}
 use Rattle.obq_base.specs.declared.code.Node.{Node}
 use Rattle.obq_base.specs.declared.trees.Operator.{Operator}
-use Rattle.obq_model.specs.Draft.{Both, Done, Draft, count_arms, count_binds, count_exprs, count_items, count_suffixes, draft_arms, draft_binds, draft_block, draft_expr, draft_items, draft_links, draft_maybe, draft_suffix, draft_suffixes, has_block, operators_of}
+use Rattle.obq_model.specs.CodeLaws.{nodes_of}
+use Rattle.obq_model.specs.Draft.{Both, captured_by, count_arms, count_binds, count_exprs, count_items, count_suffixes, draft_arms, draft_binds, draft_block, draft_expr, draft_field, draft_items, draft_links, draft_maybe, draft_suffix, draft_suffixes, has_block, operators_of}
 use Rattle.obq_model.specs.Occurrences.{bind_names}
+use Rattle.obq_model.specs.Scopes.{slots_of}
 use Rattle.obq_model.specs.Terms.{Apply, Array, Bytes, Condition, Engine, Index, Invoke, Object, Select, Variable, Writer}
+use Rattle.obq_model.proofs.Among.{true_false}
 use Rattle.obq_model.proofs.Drafted.{drafted_block, drafted_expr, drafted_suffix}
 use Rattle.obq_windows.specs.Agrees.{AfterIs, Agrees, FramesAre, IsBound, Same, StandsAt, place_at}
-use Rattle.obq_windows.specs.Moves.{begin_arms, begin_binds, begin_count, begin_vars, count_at, give_and, give_guard, give_if, give_left, give_or, give_raise, give_suffix, give_to, next_count, tree_act, with_links, with_suffixes}
+use Rattle.obq_windows.specs.Moves.{begin_args, begin_arms, begin_binds, begin_count, begin_vars, count_at, give_and, give_field, give_guard, give_if, give_left, give_or, give_raise, give_suffix, give_to, next_count, tree_act, with_links, with_suffixes}
 use Rattle.obq_windows.specs.Places.{Bound, bind_of, bound_names, outside_at, with_bound}
-use Rattle.obq_windows.specs.Trees.{Asks, BlockTask, ExprTask, Kept, KeptRaising, KeptValue, PendingChain, PendingCount, PendingGuard, PendingRight, PlainGet, PlainOperation, Silent, Stepped, ToCall, ToIndex, ToInvoke, TreeAct, TreeAfter, TreeFrame, TreeHere, TreeRaising, TreeRun, TreeUnmet, TreeValue, push, tree_moved, tree_raises}
+use Rattle.obq_windows.specs.Trees.{Asks, BlockTask, ExprTask, Kept, KeptRaising, KeptValue, PendingChain, PendingCount, PendingGuard, PendingRight, PlainGet, PlainOperation, Silent, Stepped, ToCall, ToIndex, ToInvoke, ToSetAlias, ToSetValue, TreeAct, TreeAfter, TreeFrame, TreeHere, TreeRaising, TreeRun, TreeUnmet, TreeValue, push, tree_moved, tree_raises}
 use Rattle.obq_windows.specs.Values.{ClosureValue, ExceptionValue, IntValue, LocationValue, OkayValue, PlainValue, Table, TextValue, ThreadValue, TruthValue}
-use Rattle.obq_windows.specs.Windows.{Activation, NodeAct, NodeAfter, NodeChain, NodeCount, NodeFrame, NodeGuard, NodeHere, NodeRaising, NodeRight, NodeRun, NodeUnmet, NodeValue, Store, act_node, bind, binds_node, count_node, count_node_at, give_node_and, give_node_guard, give_node_if, give_node_left, give_node_or, give_node_raise, give_node_suffix, give_node_to, guards_node, next_count_node, node_at, node_moved, node_raises, operator_in, vars_node, with_operator, with_suffix}
-use Rattle.obq_windows.proofs.Alike.{arms_alike, at_node, suffix_frames}
-use Rattle.obq_windows.proofs.AlikeCalls.{args_alike}
+use Rattle.obq_windows.specs.Windows.{Activation, NodeAct, NodeAfter, NodeChain, NodeCount, NodeFrame, NodeGuard, NodeHere, NodeMoved, NodeRaising, NodeRight, NodeRun, NodeUnmet, NodeValue, Store, act_node, args_node, bind, binds_node, count_node, count_node_at, give_node_and, give_node_field, give_node_guard, give_node_if, give_node_left, give_node_or, give_node_raise, give_node_suffix, give_node_to, guards_node, next_count_node, node_at, node_moved, node_raises, operator_in, vars_node, with_operator, with_suffix}
+use Rattle.obq_windows.proofs.Alike.{arms_alike, at_node, expr_head, plain_node, suffix_frames}
+use Rattle.obq_windows.proofs.AlikeCalls.{alone, args_alike}
 use Rattle.obq_windows.proofs.AlikeItems.{binds_alike, respelled, vars_alike}
 use Rattle.obq_windows.proofs.Envs.{names_more}
 use Rattle.obq_windows.proofs.Frames.{bound_all, frames_kept, frames_up, place_kept}
@@ -177,10 +179,6 @@ act_alike T S act b ns fs fr na after h op None = alike T S (Asks op) act b ns (
 act_alike T S act b ns fs fr na after h op (Some (KeptValue v)) = alike T S Stepped act b ns (NodeValue v) fs (TreeValue v) fr refl
 act_alike T S act b ns fs fr na after h op (Some (KeptRaising r)) = alike T S Stepped act b ns (NodeRaising r) fs (TreeRaising r) fr refl
 
--- an expression as a list of one
-alone : {R : Type 0} (T : Table R) (S : Store R) {number : CodeNo} {d : Draft} {at : ℕ} → StandsAt T S number d at → StandsAt T S number (Both d Done) at
-alone T S h = record { rest = h.rest; nodes = (h.rest, h.nodes, refl) }
-
 pub head_given : {R : Type 0} → (T : Table R) (S : Store R) → Agrees T S → (a : ℕ) (act : Activation R) (b : ℕ) (bound : List (Bound R)) → IsBound act b bound → (ns : List (NodeFrame R)) (fs : List (TreeFrame R)) → FramesAre T S act b ns fs → (at : ℕ) (x : SuffixTree) (ss : SuffixTrees)
     → StandsAt T S act.code (Both (draft_suffix (outside_at T (place_at act bound)) (bound_names bound) None x) (draft_suffixes (outside_at T (place_at act bound)) (bound_names bound) None ss)) at → (v : PlainValue R)
     → Same T S (give_node_suffix S a v act (with_suffix (S.end act.code at) (count_suffixes ss) b ns) at b (node_at S act.code at)) (give_suffix T a v (place_at act bound) x ss fs)
@@ -196,6 +194,26 @@ head_given T S g a act b bound w ns fs fr at (InvokeSuffix x es place) ss h v =
 head_given T S g a act b bound w ns fs fr at (IndexSuffix e place) ss h v =
     at_node T S act.code at n.Index (give_node_suffix S a v act (with_suffix (S.end act.code at) (count_suffixes ss) b ns) at b) _ (node_here T S (first_of T S h))
     (args_alike T S g a act b bound w _ _ (suffix_frames T S act b bound w ns fs fr (S.end act.code at) ss (second_of T S g (drafted_suffix _ _ None (IndexSuffix e place)) h)) ToIndex (v ∷ []) (suc at) (AnExpr e NoExprs) (alone T S (next_here T S (first_of T S h))))
+
+field_plain : {R : Type 0} → (S : Store R) (k : ℕ) (v : PlainValue R) (x : Bytes) (act : Activation R) (ns : List (NodeFrame R)) (child b : ℕ) (a : Node) → plain_node a ≡ true → give_node_field S k v x act ns child b (Some a) ≡ args_node S k (ToSetValue x) act (v ∷ []) child 1 b ns
+field_plain S k v x act ns child b (n.Alias y) e = absurd (true_false (sym e))
+field_plain S k v x act ns child b (n.Meth number from) e = absurd (true_false (sym e))
+field_plain S k v x act ns child b a e = refl
+
+-- the object of an update
+pub field_alike : {R : Type 0} → (T : Table R) (S : Store R) → Agrees T S → (a : ℕ) (act : Activation R) (b : ℕ) (bound : List (Bound R)) → IsBound act b bound → (ns : List (NodeFrame R)) (fs : List (TreeFrame R)) → FramesAre T S act b ns fs → (child : ℕ) (x : Bytes) (body : FieldTree) (v : PlainValue R)
+    → StandsAt T S act.code (draft_field (outside_at T (place_at act bound)) (bound_names bound) body) child
+    → Same T S (give_node_field S a v x act ns child b (node_at S act.code child)) (give_field T a v (place_at act bound) x body fs)
+field_alike {R} T S g a act b bound w ns fs fr child x (ValueOf e) v h =
+    let hd = expr_head T S act.code _ _ child e h in
+    subst (λ (m : NodeMoved R). Same T S m (begin_args T a (ToSetValue x) (place_at act bound) (v ∷ []) (AnExpr e NoExprs) fs)) (sym (ap (give_node_field S a v x act ns child b) hd.there ∙ field_plain S a v x act ns child b hd.node hd.plain))
+    (args_alike T S g a act b bound w ns fs fr (ToSetValue x) (v ∷ []) child (AnExpr e NoExprs) (alone T S h))
+field_alike T S g a act b bound w ns fs fr child x (AliasOf y e place) v h =
+    at_node T S act.code child (n.Alias y) (give_node_field S a v x act ns child b) _ (node_here T S h)
+    (args_alike T S g a act b bound w ns fs fr (ToSetAlias x y) (v ∷ []) (suc child) (AnExpr e NoExprs) (alone T S (next_here T S h)))
+field_alike T S g a act b bound w ns fs fr child x (MethodOf q) v h =
+    at_node T S act.code child (n.Meth h.nodes.0 (slots_of (outside_at T (place_at act bound)) (bound_names bound) (captured_by (outside_at T (place_at act bound)) (bound_names bound) q))) (give_node_field S a v x act ns child b) _
+    (item_here (nodes_of (S.code act.code)) child _ h.nodes.1 h.nodes.2) (inl (refl, refl))
 
 pub guards_alike : {R : Type 0} → (T : Table R) (S : Store R) → Agrees T S → (act : Activation R) (b : ℕ) (bound : List (Bound R)) → IsBound act b bound → (ns : List (NodeFrame R)) (fs : List (TreeFrame R)) → FramesAre T S act b ns fs → (e : Bytes) (at : ℕ) (arms : ArmTrees) (last : MaybeBlock)
     → StandsAt T S act.code (Both (draft_arms (outside_at T (place_at act bound)) (bound_names bound) arms) (draft_maybe (outside_at T (place_at act bound)) (bound_names bound) last)) at

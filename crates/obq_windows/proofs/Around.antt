@@ -2,19 +2,19 @@
 use Rattle.std.specs.Prelude.{Bool, List, T, [], false, nat_lt, refl, suc, true, zero, ℕ, ◌++◌, ◌∷◌, ◌≡◌, ◌≤◌}
 use Rattle.std.proofs.Common.{ap, arith, subst, sym, ◌∙◌}
 use Rattle.std.proofs.lemmas.List.{append-nil}
-use Rattle.obq_base.specs.Tree.{ALink, ASuffix, ApplySuffix, ExprTree, ExprTrees, IndexSuffix, InvokeSuffix, LinkTrees, NoLinks, NoSuffixes, SelectSuffix, SuffixTree, SuffixTrees}
+use Rattle.obq_base.specs.Tree.{ALink, ASuffix, AliasOf, ApplySuffix, ExprTree, ExprTrees, FieldTree, IndexSuffix, InvokeSuffix, LinkTrees, MethodOf, NoLinks, NoSuffixes, SelectSuffix, SuffixTree, SuffixTrees, ValueOf}
 use Rattle.obq_base.specs.declared.trees.Operator.{Operator}
 use Rattle.obq_model.specs.Frames.{AreFrames, IsFrame, LetPass, is_stop}
-use Rattle.obq_model.specs.Opened.{open_chain, open_expr, open_suffix, open_suffixes}
+use Rattle.obq_model.specs.Opened.{open_chain, open_expr, open_field, open_suffix, open_suffixes}
 use Rattle.obq_model.specs.Opening.{linked}
 use Rattle.obq_model.specs.Reading.{read}
 use Rattle.obq_model.specs.Step.{Found, Frame, Needs, Next, Pending, Self, activations_at, fill, find, is_operand, plug, self_at}
-use Rattle.obq_model.specs.Terms.{Called, Choosing, Counting, End, Finally, Finishing, For, Form, If, Kind, Let, Looping, Part, Parts, Raise, Term, Then, Try, Var}
+use Rattle.obq_model.specs.Terms.{Assign, Bytes, Called, Choosing, Counting, End, Finally, Finishing, For, Form, If, Kind, Let, Looping, Part, Parts, Raise, SetMethod, Term, Then, Try, Var}
 use Rattle.obq_model.proofs.Plug.{frames_append, needs_plug, plug_append, step_plug}
 use Rattle.obq_windows.specs.Meanings.{Means, Moves}
 use Rattle.obq_windows.specs.Moves.{with_links, with_suffixes}
 use Rattle.obq_windows.specs.Places.{Place, env_at, outside_at, writer_at}
-use Rattle.obq_windows.specs.Trees.{Asks, Callee, PendingArguments, PendingCalled, PendingChain, PendingCount, PendingFirst, PendingForm, PendingGuard, PendingHead, PendingIf, PendingKept, PendingLast, PendingLet, PendingLoop, PendingRaise, PendingRight, PendingThen, PendingTo, PendingTry, PendingVar, PlainOperation, Silent, Stepped, Tag, ToArray, ToBuiltin, ToCall, ToIndex, ToInvoke, TreeAct, TreeAfter, TreeFocus, TreeFrame, TreeMoved, callee_frame, expr_at, exprs_at, focus_term, frames_of, link_frame, linked_kind, links_around, names_at, pending_frames, push, read_operation, scope_after, suffix_frame, suffixes_around, term_of, tree_moved}
+use Rattle.obq_windows.specs.Trees.{Asks, Callee, PendingArguments, PendingAssign, PendingCalled, PendingChain, PendingCount, PendingField, PendingFirst, PendingForm, PendingGuard, PendingHead, PendingIf, PendingKept, PendingLast, PendingLet, PendingLoop, PendingRaise, PendingRight, PendingThen, PendingTo, PendingTry, PendingVar, PlainOperation, Silent, Stepped, Tag, ToArray, ToBuiltin, ToCall, ToIndex, ToInvoke, ToRedirect, ToSetAlias, ToSetIndex, ToSetValue, TreeAct, TreeAfter, TreeFocus, TreeFrame, TreeMoved, callee_frame, expr_at, exprs_at, field_frame, focus_term, frames_of, link_frame, linked_kind, links_around, names_at, pending_frames, push, read_operation, scope_after, suffix_frame, suffixes_around, term_of, tree_moved}
 use Rattle.obq_windows.specs.Values.{PlainValue, Table}
 
 -- a frame whose hole is its first part
@@ -47,6 +47,10 @@ callee_is_frame T (ToCall f) done after = λ i l. refl
 callee_is_frame T (ToBuiltin row) done after = λ i l. refl
 callee_is_frame T ToArray done after = λ i l. refl
 callee_is_frame T ToIndex done after = λ i l. refl
+callee_is_frame T ToSetIndex done after = λ i l. refl
+callee_is_frame T (ToSetValue x) done after = λ i l. refl
+callee_is_frame T (ToSetAlias x y) done after = λ i l. refl
+callee_is_frame T ToRedirect done after = λ i l. refl
 callee_is_frame T (ToInvoke x) done after = λ i l. refl
 
 below_two : (i : ℕ) → i ≤ 1 → nat_lt i 2 ≡ true
@@ -55,6 +59,11 @@ below_two (suc zero) l = refl
 below_two (suc (suc i)) l = absurd (none i l) where
   none : (k : ℕ) → suc (suc k) ≤ 1 → ⊥
   none k e = omega (arith, e)
+
+field_is_frame : {R : Type 0} → (T : Table R) (p : Place R) (x : Bytes) (body : FieldTree) → IsFrame (field_frame T p x body)
+field_is_frame T p x (ValueOf e) = λ i l. refl
+field_is_frame {R} T p x (MethodOf q) = first_hole {R = R} (SetMethod x) End refl
+field_is_frame T p x (AliasOf y e place) = λ i l. refl
 
 pub pend_are_frames : {R : Type 0} → (T : Table R) (p : Place R) (pending : PendingForm R) → AreFrames (pending_frames T p pending)
 pend_are_frames {R} T p (PendingThen is) = (first_hole {R = R} Then End refl, tt)
@@ -71,6 +80,8 @@ pend_are_frames {R} T p (PendingTry arms last) = (first_hole {R = R} Try End ref
 pend_are_frames {R} T p (PendingGuard e b arms last) = (first_hole {R = R} (Choosing e) End refl, tt)
 pend_are_frames {R} T p (PendingLast b) = (first_hole {R = R} Finally End refl, tt)
 pend_are_frames {R} T p (PendingKept k) = (first_hole {R = R} Finishing End refl, tt)
+pend_are_frames {R} T p (PendingAssign x) = (first_hole {R = R} Assign End refl, tt)
+pend_are_frames {R} T p (PendingField x body) = (field_is_frame T p x body, tt)
 pend_are_frames {R} T p (PendingLoop b) = (first_hole {R = R} Looping End refl, tt)
 pend_are_frames {R} T p (PendingFirst x e b) = (first_hole {R = R} For End refl, tt)
 pend_are_frames T p (PendingTo first x b) = (λ i l. below_two i l, tt)
@@ -189,6 +200,10 @@ callee_passes T (ToCall f) done after = (refl, tt)
 callee_passes T (ToBuiltin row) done after = (refl, tt)
 callee_passes T ToArray done after = (refl, tt)
 callee_passes T ToIndex done after = (refl, tt)
+callee_passes T ToSetIndex done after = (refl, tt)
+callee_passes T (ToSetValue x) done after = (refl, tt)
+callee_passes T (ToSetAlias x y) done after = (refl, tt)
+callee_passes T ToRedirect done after = (refl, tt)
 callee_passes T (ToInvoke x) done after = (refl, tt)
 
 pub chain_passes : {R : Type 0} → (T : Table R) (p : Place R) (op : Operator) (e : ExprTree) (links : LinkTrees) → LetPass (pending_frames T p (PendingChain op e links))
@@ -199,3 +214,13 @@ head_passes T p s ss = letpass_append (suffixes_around T p ss) _ (suffixes_pass 
 
 pub args_pass : {R : Type 0} → (T : Table R) (p : Place R) (callee : Callee R) (done : List (PlainValue R)) (es : ExprTrees) → LetPass (pending_frames T p (PendingArguments callee done es))
 args_pass T p callee done es = callee_passes T callee done (exprs_at T p es)
+
+pub field_passes : {R : Type 0} → (T : Table R) (p : Place R) (x : Bytes) (body : FieldTree) → LetPass (field_frame T p x body ∷ [])
+field_passes T p x (ValueOf e) = (refl, tt)
+field_passes T p x (MethodOf q) = (refl, tt)
+field_passes T p x (AliasOf y e place) = (refl, tt)
+
+pub field_read : {R : Type 0} → (T : Table R) (p : Place R) (x : Bytes) (body : FieldTree) (t : Term R) → read (env_at T p) (open_field (writer_at T p) (outside_at T p) (names_at p) x t body) ≡ fill (field_frame T p x body) (read (env_at T p) t)
+field_read T p x (ValueOf e) t = refl
+field_read T p x (MethodOf q) t = refl
+field_read T p x (AliasOf y e place) t = refl

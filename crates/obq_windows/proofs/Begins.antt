@@ -1,7 +1,7 @@
 -- A part that begins to run, and calls whose arguments are there.
 use Rattle.std.specs.Prelude.{Bool, List, None, Option, Some, [], codes, false, if◌then◌else◌, length, nat_lt, refl, slice_get, suc, true, ℕ, ◌&&◌, ◌==◌, ◌∷◌, ◌≡◌}
 use Rattle.std.proofs.Common.{ap, subst, sym, ◌∙◌}
-use Rattle.obq_base.specs.Tree.{ALink, ASuffix, AnExpr, ApplySuffix, ExprTrees, IndexSuffix, InvokeSuffix, LinkTrees, NoExprs, NoLinks, NoSuffixes, SelectSuffix, SuffixTree, SuffixTrees}
+use Rattle.obq_base.specs.Tree.{ALink, ASuffix, AliasOf, AnExpr, ApplySuffix, ExprTrees, FieldTree, IndexSuffix, InvokeSuffix, LinkTrees, MethodOf, NoExprs, NoLinks, NoSuffixes, SelectSuffix, SuffixTree, SuffixTrees, ValueOf}
 use Rattle.obq_base.specs.declared.code.CodeNo.{CodeNo}
 use Rattle.obq_base.specs.declared.limits.TheConstants.{ARRAY_LIMIT}
 use Rattle.obq_base.specs.declared.trees.Operator.{Operator}
@@ -10,18 +10,19 @@ use Rattle.obq_model.specs.Exceptions.{arity, array_limit, call_limit, raise}
 use Rattle.obq_model.specs.Opened.{builtin_at}
 use Rattle.obq_model.specs.Step.{CallMethod, Found, Itself, Needs, New, Next, Self, activations_at, apply, call, call_value, fill, is_call_limit, plug, row, self_at, values_before}
 use Rattle.obq_model.specs.Store.{ArrayCell}
-use Rattle.obq_model.specs.Terms.{Apply, Array, Bytes, Call, Condition, End, Engine, Form, Index, Invoke, MakeArray, Object, Part, Parts, Term, Variable, Writer}
+use Rattle.obq_model.specs.Terms.{Apply, Array, Bytes, Call, Condition, End, Engine, Form, Index, Invoke, MakeArray, Object, Part, Parts, Redirect, SetAlias, SetIndex, SetValue, Term, Variable, Writer}
 use Rattle.obq_model.proofs.Plug.{activations_append, operands}
 use Rattle.obq_windows.specs.Meanings.{Moves}
 use Rattle.obq_windows.specs.Moves.{begin_args, call_code, call_plain, count_activations, finish_args, is_activation, tree_result, with_suffixes}
 use Rattle.obq_windows.specs.Places.{Place}
-use Rattle.obq_windows.specs.Results.{Beyond, Does, Gives, PlainResult, Raises, applied, array_made, indexed, invoked}
-use Rattle.obq_windows.specs.Trees.{Callee, ExprTask, PendingArguments, PendingCalled, PendingChain, PendingCount, PendingFirst, PendingForm, PendingGuard, PendingHead, PendingIf, PendingKept, PendingLast, PendingLet, PendingLoop, PendingRaise, PendingRight, PendingThen, PendingTo, PendingTry, PendingVar, PlainInvoke, PlainNewArray, Silent, Stepped, ToArray, ToBuiltin, ToCall, ToIndex, ToInvoke, TreeFrame, TreeHere, TreeMoved, TreeRun, TreeValue, callee_frame, expr_at, exprs_at, frames_of, link_frame, links_around, pending_frames, push, suffix_frame, suffixes_around, tree_moved, tree_raises}
+use Rattle.obq_windows.specs.Results.{Beyond, Does, Gives, PlainResult, Raises, alias_set, applied, array_made, indexed, invoked, item_set, redirected, value_set}
+use Rattle.obq_windows.specs.Trees.{Callee, ExprTask, PendingArguments, PendingAssign, PendingCalled, PendingChain, PendingCount, PendingField, PendingFirst, PendingForm, PendingGuard, PendingHead, PendingIf, PendingKept, PendingLast, PendingLet, PendingLoop, PendingRaise, PendingRight, PendingThen, PendingTo, PendingTry, PendingVar, PlainInvoke, PlainNewArray, Silent, Stepped, ToArray, ToBuiltin, ToCall, ToIndex, ToInvoke, ToRedirect, ToSetAlias, ToSetIndex, ToSetValue, TreeFrame, TreeHere, TreeMoved, TreeRun, TreeValue, callee_frame, expr_at, exprs_at, field_frame, frames_of, link_frame, links_around, pending_frames, push, suffix_frame, suffixes_around, tree_moved, tree_raises}
 use Rattle.obq_windows.specs.Values.{ClosureValue, ExceptionValue, IntValue, IsMadeTable, LocationValue, OkayValue, PlainValue, Table, TextValue, ThreadValue, TruthValue, closure_of, proc_named, proc_of, read_all, read_value, read_values}
 use Rattle.obq_windows.proofs.Around.{asks, found_in, pushed, silent, to_here}
 use Rattle.obq_windows.proofs.BuiltIns.{applied_is}
 use Rattle.obq_windows.proofs.Calls.{callable, entered_right}
 use Rattle.obq_windows.proofs.Results.{ResultIs, closure_cases}
+use Rattle.obq_windows.proofs.Updates.{alias_set_is, item_set_is, redirected_is, value_set_is}
 
 -- the same of a term that is spelled in another way
 pub of_term : {R : Type 0} → (eq : R → R → Bool) (T : Table R) (a : ℕ) (s : Self R) (t u : Term R) (m : TreeMoved R) → t ≡ u → Moves eq T a s u m → Moves eq T a s t m
@@ -47,6 +48,11 @@ count_suffixes_around : {R : Type 0} → (T : Table R) (a : ℕ) (p : Place R) (
 count_suffixes_around T a p NoSuffixes = refl
 count_suffixes_around T a p (ASuffix s ss) = activations_append a (suffixes_around T p ss) (suffix_frame T p s ∷ []) ∙ one_suffix T (activations_at a (suffixes_around T p ss)) p s ∙ count_suffixes_around T a p ss
 
+count_field : {R : Type 0} → (T : Table R) (n : ℕ) (p : Place R) (x : Bytes) (body : FieldTree) → activations_at n (field_frame T p x body ∷ []) ≡ n
+count_field T n p x (ValueOf e) = refl
+count_field T n p x (MethodOf q) = refl
+count_field T n p x (AliasOf y e place) = refl
+
 count_pend : {R : Type 0} → (T : Table R) (a : ℕ) (p : Place R) (pending : PendingForm R) → activations_at a (pending_frames T p pending) ≡ (if is_activation pending then suc a else a)
 count_pend T a p (PendingThen is) = refl
 count_pend T a p (PendingLet x bs is) = refl
@@ -59,6 +65,10 @@ count_pend T a p (PendingArguments (ToCall f) done es) = refl
 count_pend T a p (PendingArguments (ToBuiltin row) done es) = refl
 count_pend T a p (PendingArguments ToArray done es) = refl
 count_pend T a p (PendingArguments ToIndex done es) = refl
+count_pend T a p (PendingArguments ToSetIndex done es) = refl
+count_pend T a p (PendingArguments (ToSetValue x) done es) = refl
+count_pend T a p (PendingArguments (ToSetAlias x y) done es) = refl
+count_pend T a p (PendingArguments ToRedirect done es) = refl
 count_pend T a p (PendingArguments (ToInvoke x) done es) = refl
 count_pend T a p PendingRaise = refl
 count_pend T a p PendingCalled = refl
@@ -66,6 +76,8 @@ count_pend T a p (PendingTry arms last) = refl
 count_pend T a p (PendingGuard e b arms last) = refl
 count_pend T a p (PendingLast b) = refl
 count_pend T a p (PendingKept k) = refl
+count_pend T a p (PendingAssign x) = refl
+count_pend T a p (PendingField x body) = count_field T a p x body
 count_pend T a p (PendingLoop b) = refl
 count_pend T a p (PendingFirst x e b) = refl
 count_pend T a p (PendingTo first x b) = refl
@@ -124,6 +136,10 @@ callee_form T (ToCall f) done after = Form Call (values_before (read_value T f �
 callee_form T (ToBuiltin row) done after = Form (Apply (builtin_at row)) (values_before (read_all T done) after)
 callee_form T ToArray done after = Form MakeArray (values_before (read_all T done) after)
 callee_form T ToIndex done after = Form Index (values_before (read_all T done) after)
+callee_form T ToSetIndex done after = Form SetIndex (values_before (read_all T done) after)
+callee_form T (ToSetValue x) done after = Form (SetValue x) (values_before (read_all T done) after)
+callee_form T (ToSetAlias x y) done after = Form (SetAlias x y) (values_before (read_all T done) after)
+callee_form T ToRedirect done after = Form Redirect (values_before (read_all T done) after)
 callee_form T (ToInvoke x) done after = Form (Invoke x) (values_before (read_all T done) after)
 
 array_made_is : {R : Type 0} → (eq : R → R → Bool) (T : Table R) (a : ℕ) (s : Self R) (vs : List (PlainValue R)) → ResultIs T (row eq a s MakeArray (read_all T vs) End) (array_made vs)
@@ -202,6 +218,14 @@ finish_right eq T a s w fs ToArray p vs =
     result_right eq T a s fs _ _ (array_made vs) (operands eq (activations_at a (frames_of T fs)) (self_at s (frames_of T fs)) MakeArray [] (read_all T vs) End (λ i l. refl)) (array_made_is eq T (activations_at a (frames_of T fs)) (self_at s (frames_of T fs)) vs)
 finish_right eq T a s w fs ToIndex p vs =
     result_right eq T a s fs _ _ (indexed vs) (operands eq (activations_at a (frames_of T fs)) (self_at s (frames_of T fs)) Index [] (read_all T vs) End (λ i l. refl)) (indexed_is eq T (activations_at a (frames_of T fs)) (self_at s (frames_of T fs)) vs)
+finish_right eq T a s w fs ToSetIndex p vs =
+    result_right eq T a s fs _ _ (item_set vs) (operands eq (activations_at a (frames_of T fs)) (self_at s (frames_of T fs)) SetIndex [] (read_all T vs) End (λ i l. refl)) (item_set_is eq T (activations_at a (frames_of T fs)) (self_at s (frames_of T fs)) vs)
+finish_right eq T a s w fs (ToSetValue x) p vs =
+    result_right eq T a s fs _ _ (value_set x vs) (operands eq (activations_at a (frames_of T fs)) (self_at s (frames_of T fs)) (SetValue x) [] (read_all T vs) End (λ i l. refl)) (value_set_is eq T (activations_at a (frames_of T fs)) (self_at s (frames_of T fs)) x vs)
+finish_right eq T a s w fs (ToSetAlias x y) p vs =
+    result_right eq T a s fs _ _ (alias_set x y vs) (operands eq (activations_at a (frames_of T fs)) (self_at s (frames_of T fs)) (SetAlias x y) [] (read_all T vs) End (λ i l. refl)) (alias_set_is eq T (activations_at a (frames_of T fs)) (self_at s (frames_of T fs)) x y vs)
+finish_right eq T a s w fs ToRedirect p vs =
+    result_right eq T a s fs _ _ (redirected vs) (operands eq (activations_at a (frames_of T fs)) (self_at s (frames_of T fs)) Redirect [] (read_all T vs) End (λ i l. refl)) (redirected_is eq T (activations_at a (frames_of T fs)) (self_at s (frames_of T fs)) vs)
 finish_right {R} eq T a s w fs (ToInvoke x) p vs =
     subst (λ (n : ℕ). Moves eq T a s (plug (frames_of T fs) (Form (Invoke x) (values_before (read_all T vs) End))) (tree_result (invoked n x vs) fs)) (counted T a fs)
     (result_right eq T a s fs _ _ (invoked (activations_at a (frames_of T fs)) x vs) (operands eq (activations_at a (frames_of T fs)) (self_at s (frames_of T fs)) (Invoke x) [] (read_all T vs) End (λ i l. refl))
@@ -222,6 +246,10 @@ args_right {R} eq T a s w fs callee p done (AnExpr e es) =
       filled (ToBuiltin row) = refl
       filled ToArray = refl
       filled ToIndex = refl
+      filled ToSetIndex = refl
+      filled (ToSetValue x) = refl
+      filled (ToSetAlias x y) = refl
+      filled ToRedirect = refl
       filled (ToInvoke x) = refl
 
 -- inside of further suffixes

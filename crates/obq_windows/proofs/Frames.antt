@@ -6,9 +6,9 @@ use Rattle.obq_base.specs.Tree.{AnItem, NoItems}
 use Rattle.obq_model.specs.Effect.{kept}
 use Rattle.obq_windows.specs.Agrees.{FrameIs, FramesAre, IsBound, PlaceIs, act_behind, height_behind}
 use Rattle.obq_windows.specs.Places.{Bound, Place, bound_values}
-use Rattle.obq_windows.specs.Trees.{PendingArguments, PendingCalled, PendingChain, PendingCount, PendingFirst, PendingForm, PendingGuard, PendingHead, PendingIf, PendingKept, PendingLast, PendingLet, PendingLoop, PendingRaise, PendingRight, PendingThen, PendingTo, PendingTry, PendingVar, TreeFrame}
+use Rattle.obq_windows.specs.Trees.{PendingArguments, PendingAssign, PendingCalled, PendingChain, PendingCount, PendingField, PendingFirst, PendingForm, PendingGuard, PendingHead, PendingIf, PendingKept, PendingLast, PendingLet, PendingLoop, PendingRaise, PendingRight, PendingThen, PendingTo, PendingTry, PendingVar, TreeFrame}
 use Rattle.obq_windows.specs.Values.{PlainValue, Table}
-use Rattle.obq_windows.specs.Windows.{Activation, NodeArguments, NodeCalled, NodeChain, NodeCount, NodeFirst, NodeFrame, NodeGuard, NodeHead, NodeIf, NodeKept, NodeLast, NodeLet, NodeLoop, NodeRaise, NodeRight, NodeThen, NodeTo, NodeTry, NodeVar, Store, bind}
+use Rattle.obq_windows.specs.Windows.{Activation, NodeArguments, NodeAssign, NodeCalled, NodeChain, NodeCount, NodeField, NodeFirst, NodeFrame, NodeGuard, NodeHead, NodeIf, NodeKept, NodeLast, NodeLet, NodeLoop, NodeRaise, NodeRight, NodeThen, NodeTo, NodeTry, NodeVar, Store, bind}
 
 -- ---- more binders in force
 
@@ -30,7 +30,9 @@ frame_up T S act b c f p PendingCalled l h = h
 frame_up T S act b c f p (PendingTry arms last) l h = (h.0, h.1, h.2, at_most _ b c h.3 l, h.4, h.5)
 frame_up T S act b c f p (PendingGuard e block arms last) l h = (h.0, h.1, h.2, at_most _ b c h.3 l, h.4, h.5)
 frame_up T S act b c f p (PendingLast block) l h = (h.0, h.1, h.2, at_most _ b c h.3 l, h.4, h.5)
+frame_up T S act b c f p (PendingField x body) l h = (h.0, h.1, h.2, at_most _ b c h.3 l, h.4, h.5)
 frame_up T S act b c f p (PendingKept k) l h = h
+frame_up T S act b c f p (PendingAssign x) l h = (h.0, h.1, at_most _ b c h.2 l, h.3)
 frame_up T S act b c f p (PendingLoop block) l h = (h.0, h.1, h.2, at_most _ b c h.3 l, h.4, h.5)
 frame_up T S act b c f p (PendingFirst x e block) l h = (h.0, h.1, h.2, at_most _ b c h.3 l, h.4, h.5)
 frame_up T S act b c f p (PendingTo first x block) l h = (h.0, h.1, h.2, at_most _ b c h.3 l, h.4, h.5)
@@ -52,6 +54,8 @@ heights b c (NodeGuard e child arms last h) = inl refl
 heights b c (NodeLast child h) = inl refl
 heights b c (NodeKept k) = inr (refl, refl)
 heights b c (NodeLoop child h) = inl refl
+heights b c (NodeAssign slot h) = inl refl
+heights b c (NodeField x child h) = inl refl
 heights b c (NodeFirst child h) = inl refl
 heights b c (NodeTo first child h) = inl refl
 heights b c (NodeCount i n child h) = inl refl
@@ -103,7 +107,9 @@ frame_kept T S act b h vs f p PendingCalled l k = k
 frame_kept T S act b h vs f p (PendingTry arms last) l k = (k.0, k.1, k.2, k.3, place_kept act _ h vs p (at_most _ b h k.3 l) k.4, k.5)
 frame_kept T S act b h vs f p (PendingGuard e block arms last) l k = (k.0, k.1, k.2, k.3, place_kept act _ h vs p (at_most _ b h k.3 l) k.4, k.5)
 frame_kept T S act b h vs f p (PendingLast block) l k = (k.0, k.1, k.2, k.3, place_kept act _ h vs p (at_most _ b h k.3 l) k.4, k.5)
+frame_kept T S act b h vs f p (PendingField x body) l k = (k.0, k.1, k.2, k.3, place_kept act _ h vs p (at_most _ b h k.3 l) k.4, k.5)
 frame_kept T S act b h vs f p (PendingKept kept) l k = k
+frame_kept T S act b h vs f p (PendingAssign x) l k = (k.0, k.1, k.2, place_kept act _ h vs p (at_most _ b h k.2 l) k.3)
 frame_kept T S act b h vs f p (PendingLoop block) l k = (k.0, k.1, k.2, k.3, place_kept act _ h vs p (at_most _ b h k.3 l) k.4, k.5)
 frame_kept T S act b h vs f p (PendingFirst x e block) l k = (k.0, k.1, k.2, k.3, place_kept act _ h vs p (at_most _ b h k.3 l) k.4, k.5)
 frame_kept T S act b h vs f p (PendingTo first x block) l k = (k.0, k.1, k.2, k.3, place_kept act _ h vs p (at_most _ b h k.3 l) k.4, k.5)
@@ -125,7 +131,9 @@ frame_low T S act b f p PendingCalled k = inr k
 frame_low {R} T S act b f p (PendingTry arms last) k = inl (subst (λ (z : NodeFrame R). height_behind b z ≤ b) (sym k.2) k.3)
 frame_low {R} T S act b f p (PendingGuard e block arms last) k = inl (subst (λ (z : NodeFrame R). height_behind b z ≤ b) (sym k.2) k.3)
 frame_low {R} T S act b f p (PendingLast block) k = inl (subst (λ (z : NodeFrame R). height_behind b z ≤ b) (sym k.2) k.3)
+frame_low {R} T S act b f p (PendingField x body) k = inl (subst (λ (z : NodeFrame R). height_behind b z ≤ b) (sym k.2) k.3)
 frame_low {R} T S act b f p (PendingKept kept) k = inl (subst (λ (z : NodeFrame R). height_behind b z ≤ b) (sym k) (omega arith))
+frame_low {R} T S act b f p (PendingAssign x) k = inl (subst (λ (z : NodeFrame R). height_behind b z ≤ b) (sym k.1) k.2)
 frame_low {R} T S act b f p (PendingLoop block) k = inl (subst (λ (z : NodeFrame R). height_behind b z ≤ b) (sym k.2) k.3)
 frame_low {R} T S act b f p (PendingFirst x e block) k = inl (subst (λ (z : NodeFrame R). height_behind b z ≤ b) (sym k.2) k.3)
 frame_low {R} T S act b f p (PendingTo first x block) k = inl (subst (λ (z : NodeFrame R). height_behind b z ≤ b) (sym k.2) k.3)
@@ -147,6 +155,8 @@ acts act h vs (NodeGuard e child arms last hh) = inl (refl, refl)
 acts act h vs (NodeLast child hh) = inl (refl, refl)
 acts act h vs (NodeKept k) = inl (refl, refl)
 acts act h vs (NodeLoop child hh) = inl (refl, refl)
+acts act h vs (NodeAssign slot hh) = inl (refl, refl)
+acts act h vs (NodeField x child hh) = inl (refl, refl)
 acts act h vs (NodeFirst child hh) = inl (refl, refl)
 acts act h vs (NodeTo first child hh) = inl (refl, refl)
 acts act h vs (NodeCount i n child hh) = inl (refl, refl)

@@ -3,21 +3,21 @@ use Rattle.std.specs.Prelude.{Bool, List, [], bytes_eq, codes, false, if◌then�
 use Rattle.std.proofs.Common.{ap, arith, sym, ◌∙◌}
 use Rattle.std.proofs.lemmas.Int.{ints}
 use Rattle.std.proofs.lemmas.List.{append_assoc}
-use Rattle.obq_base.specs.Tree.{ABlock, AnArm, AnExpr, ApplySuffix, ArmTrees, BindTrees, BlockTree, ExprTree, IndexSuffix, InvokeSuffix, ItemTrees, LinkTrees, MaybeBlock, NoArms, NoBlock, NoExprs, SelectSuffix, SuffixTree, SuffixTrees}
+use Rattle.obq_base.specs.Tree.{ABlock, AliasOf, AnArm, AnExpr, ApplySuffix, ArmTrees, BindTrees, BlockTree, ExprTree, FieldTree, IndexSuffix, InvokeSuffix, ItemTrees, LinkTrees, MaybeBlock, MethodOf, NoArms, NoBlock, NoExprs, SelectSuffix, SuffixTree, SuffixTrees, ValueOf}
 use Rattle.obq_base.specs.declared.trees.Operator.{Operator}
 use Rattle.obq_model.specs.Exceptions.{wrong_type}
 use Rattle.obq_model.specs.Opened.{builtin_at, open_binds, open_block, open_items}
 use Rattle.obq_model.specs.Put.{enter}
 use Rattle.obq_model.specs.Reading.{Env, hide, read}
 use Rattle.obq_model.specs.Step.{Frame, Next, Self, activations_at, choose, counting, fill, find, find_part, plug, self_at, values_before}
-use Rattle.obq_model.specs.Terms.{AndIf, Apply, Array, Bytes, Call, Choosing, Condition, Const, Counting, End, Engine, Exc, For, Form, If, Index, Int, Invoke, Kind, Let, MakeArray, Object, Okay, OrIf, Part, Parts, Raise, Select, Term, Truth, Try, Under, Value, Var, Variable, Writer}
+use Rattle.obq_model.specs.Terms.{AndIf, Apply, Array, Bytes, Call, Choosing, Condition, Const, Counting, End, Engine, Exc, For, Form, If, Index, Int, Invoke, Kind, Let, MakeArray, Object, Okay, OrIf, Part, Parts, Raise, Redirect, Select, SetAlias, SetIndex, SetValue, Term, Truth, Try, Under, Value, Var, Variable, Writer}
 use Rattle.obq_model.proofs.Plug.{plug_append}
 use Rattle.obq_model.proofs.PutRead.{put_read}
 use Rattle.obq_windows.specs.Meanings.{Moves}
-use Rattle.obq_windows.specs.Moves.{begin_args, begin_arms, begin_binds, begin_count, begin_if, begin_rest, count_activations, count_at, give_and, give_guard, give_if, give_left, give_or, give_pending, give_raise, give_suffix, give_to, going_on, next_count, tree_result, with_links, with_suffixes}
+use Rattle.obq_windows.specs.Moves.{begin_args, begin_arms, begin_binds, begin_count, begin_if, begin_rest, count_activations, count_at, give_and, give_field, give_guard, give_if, give_left, give_or, give_pending, give_raise, give_suffix, give_to, going_on, next_count, target_value, tree_result, with_links, with_suffixes}
 use Rattle.obq_windows.specs.Places.{Place, bind_of, env_at, outside_at, with_bound, writer_at}
-use Rattle.obq_windows.specs.Results.{operated}
-use Rattle.obq_windows.specs.Trees.{Asks, BlockTask, Callee, ExprTask, KeptRaising, KeptValue, PendingArguments, PendingCalled, PendingChain, PendingCount, PendingFirst, PendingForm, PendingGuard, PendingHead, PendingIf, PendingKept, PendingLast, PendingLet, PendingLoop, PendingRaise, PendingRight, PendingThen, PendingTo, PendingTry, PendingVar, PlainGet, PlainNewVariable, Silent, Stepped, ToArray, ToBuiltin, ToCall, ToIndex, ToInvoke, TreeAct, TreeFrame, TreeHere, TreeRaising, TreeRun, TreeUnder, TreeUnmet, TreeValue, arms_at, block_at, callee_frame, expr_at, exprs_at, frames_of, if_at, let_at, link_frame, linked_kind, links_around, names_at, pending_frames, push, scope_at, suffix_frame, suffixes_around, tree_moved, tree_raises, vars_at}
+use Rattle.obq_windows.specs.Results.{assigned, operated}
+use Rattle.obq_windows.specs.Trees.{Asks, BlockTask, Callee, ExprTask, KeptRaising, KeptValue, PendingArguments, PendingAssign, PendingCalled, PendingChain, PendingCount, PendingField, PendingFirst, PendingForm, PendingGuard, PendingHead, PendingIf, PendingKept, PendingLast, PendingLet, PendingLoop, PendingRaise, PendingRight, PendingThen, PendingTo, PendingTry, PendingVar, PlainGet, PlainNewVariable, Silent, Stepped, ToArray, ToBuiltin, ToCall, ToIndex, ToInvoke, ToRedirect, ToSetAlias, ToSetIndex, ToSetValue, TreeAct, TreeFrame, TreeHere, TreeRaising, TreeRun, TreeUnder, TreeUnmet, TreeValue, arms_at, block_at, callee_frame, expr_at, exprs_at, field_frame, frames_of, if_at, let_at, link_frame, linked_kind, links_around, names_at, pending_frames, push, scope_at, suffix_frame, suffixes_around, tree_moved, tree_raises, vars_at}
 use Rattle.obq_windows.specs.Values.{ClosureValue, ExceptionValue, IntValue, IsMadeTable, LocationValue, OkayValue, PlainValue, Table, TextValue, ThreadValue, TruthValue, proc_of, read_all, read_value, read_values}
 use Rattle.obq_windows.proofs.Around.{asks, found_in, links_frames, pushed, silent, stepped, suffixes_frames, to_here, to_pushed}
 use Rattle.obq_windows.proofs.Begins.{args_right, callee_form, of_term, result_right, suffix_args}
@@ -26,6 +26,7 @@ use Rattle.obq_windows.proofs.Envs.{bound_more, names_more}
 use Rattle.obq_windows.proofs.Operators.{operated_is}
 use Rattle.obq_windows.proofs.Results.{closure_cases}
 use Rattle.obq_windows.proofs.Starting.{binds_at, binds_start, if_starts, vars_from}
+use Rattle.obq_windows.proofs.Updates.{target_is}
 
 -- the window with this frame is the frame's form around the value, inside of the others
 one_frame : {R : Type 0} → (T : Table R) (fs : List (TreeFrame R)) (gs : List (Frame R)) (t : Term R) → plug (frames_of T fs ++ gs) t ≡ plug (frames_of T fs) (plug gs t)
@@ -215,6 +216,12 @@ to_given eq T a s (ThreadValue y) w p x b fs = to_here eq T a s fs _ (tree_raise
 to_given eq T a s (ClosureValue ty cy gy iy csy) w p x b fs = to_here eq T a s fs _ (tree_raises (codes "type")) (closure_cases T (read_values T csy) (proc_of T gy iy) (λ f. find eq (activations_at a (frames_of T fs)) (self_at s (frames_of T fs)) (Form For (Part (Const f) (Part (Const (read_value T w)) (Part (scope_at T p x b) End)))) ≡ Next (wrong_type)) (λ params body. refl) (λ names G i. refl))
 to_given eq T a s (LocationValue ky y) w p x b fs = to_here eq T a s fs _ (tree_raises (codes "type")) refl
 
+field_given : {R : Type 0} → (eq : R → R → Bool) (T : Table R) (a : ℕ) (s : Self R) → IsMadeTable T → (v : PlainValue R) (p : Place R) (x : Bytes) (body : FieldTree) (fs : List (TreeFrame R))
+    → Moves eq T a s (plug (frames_of T fs) (fill (field_frame T p x body) (Const (read_value T v)))) (give_field T (count_activations a fs) v p x body fs)
+field_given eq T a s w v p x (ValueOf e) fs = args_right eq T a s w fs (ToSetValue x) p (v ∷ []) (AnExpr e NoExprs)
+field_given eq T a s w v p x (AliasOf y e place) fs = args_right eq T a s w fs (ToSetAlias x y) p (v ∷ []) (AnExpr e NoExprs)
+field_given eq T a s w v p x (MethodOf q) fs = tt
+
 -- a value in a frame
 pub given : {R : Type 0} → (eq : R → R → Bool) (T : Table R) (a : ℕ) (s : Self R) → IsMadeTable T → (v : PlainValue R) (p : Place R) (pending : PendingForm R) (fs : List (TreeFrame R))
     → Moves eq T a s (plug (frames_of T fs ++ pending_frames T p pending) (Const (read_value T v))) (give_pending eq T (count_activations a fs) v p pending fs)
@@ -240,6 +247,10 @@ given {R} eq T a s w v p (PendingArguments callee done es) fs =
       one_more (ToBuiltin r) = ap (Form (Apply (builtin_at r))) (values_end done)
       one_more ToArray = ap (Form MakeArray) (values_end done)
       one_more ToIndex = ap (Form Index) (values_end done)
+      one_more ToSetIndex = ap (Form SetIndex) (values_end done)
+      one_more (ToSetValue x) = ap (Form (SetValue x)) (values_end done)
+      one_more (ToSetAlias x y) = ap (Form (SetAlias x y)) (values_end done)
+      one_more ToRedirect = ap (Form Redirect) (values_end done)
       one_more (ToInvoke x) = ap (Form (Invoke x)) (values_end done)
 given eq T a s w v p PendingRaise fs = of_term eq T a s _ _ (give_raise v fs) (one_frame T fs _ _) (raise_given eq T a s v fs)
 given eq T a s w v p PendingCalled fs = of_term eq T a s _ _ (tree_moved Stepped fs (TreeValue v)) (one_frame T fs _ _) (to_here eq T a s fs _ (TreeValue v) refl)
@@ -248,6 +259,8 @@ given eq T a s w v p (PendingGuard e b arms last) fs = of_term eq T a s _ _ (giv
 given eq T a s w v p (PendingLast b) fs = of_term eq T a s _ _ (tree_moved Stepped (push p (PendingKept (KeptValue v)) fs) (TreeRun p (BlockTask b))) (one_frame T fs _ _) (to_pushed eq T a s fs _ p (PendingKept (KeptValue v)) (TreeRun p (BlockTask b)) refl)
 given eq T a s w v p (PendingKept (KeptValue u)) fs = of_term eq T a s _ _ (tree_moved Stepped fs (TreeValue u)) (one_frame T fs _ _) (to_here eq T a s fs _ (TreeValue u) refl)
 given eq T a s w v p (PendingKept (KeptRaising r)) fs = of_term eq T a s _ _ (tree_moved Stepped fs (TreeRaising r)) (one_frame T fs _ _) (to_here eq T a s fs _ (TreeRaising r) refl)
+given eq T a s w v p (PendingAssign x) fs = of_term eq T a s _ _ (tree_result (assigned (target_value T p x) v) fs) (one_frame T fs _ _) (result_right eq T a s fs _ _ (assigned (target_value T p x) v) refl (target_is eq T (activations_at a (frames_of T fs)) (self_at s (frames_of T fs)) p x v))
+given eq T a s w v p (PendingField x body) fs = of_term eq T a s _ _ (give_field T (count_activations a fs) v p x body fs) (one_frame T fs _ _) (field_given eq T a s w v p x body fs)
 given eq T a s w v p (PendingFirst x n b) fs = of_term eq T a s _ _ (tree_moved Silent (push p (PendingTo v x b) fs) (TreeRun p (ExprTask n))) (one_frame T fs _ _) (silent eq T a s fs _ (tree_moved Silent (push p (PendingTo v x b) fs) (TreeRun p (ExprTask n))) (record { tag_is = refl; leads = pushed T fs p (PendingTo v x b) (TreeRun p (ExprTask n)) _ refl }))
 given eq T a s w v p (PendingTo first x b) fs = of_term eq T a s _ _ (give_to first v p x b fs) (one_frame T fs _ _) (to_given eq T a s first v p x b fs)
 given eq T a s w v p (PendingCount i n x b) fs = of_term eq T a s _ _ (next_count p i n x b fs) (one_frame T fs _ _) (next_right eq T a s fs _ p i n x b refl)

@@ -26,4 +26,5 @@ pub mod Results
 pub mod Running
 pub mod Slots
 pub mod Starting
+pub mod Updates
 pub mod Whole

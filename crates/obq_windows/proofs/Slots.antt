@@ -17,8 +17,8 @@ use Rattle.obq_model.proofs.Drafted.{Drafted}
 use Rattle.obq_model.proofs.Places.{among_place, or_else, place_below, place_found}
 use Rattle.obq_model.proofs.Skips.{ends}
 use Rattle.obq_windows.specs.Agrees.{Agrees, FocusIs, FramesAre, IsBound, Same, StandsAt, place_at}
-use Rattle.obq_windows.specs.Moves.{begin_name, captured_values, used, value_or_okay}
-use Rattle.obq_windows.specs.Places.{Bound, bound_names, bound_values, last_bound, member_at, or_this, outside_at, proc_group, proc_outside, value_of}
+use Rattle.obq_windows.specs.Moves.{begin_name, captured_values, target_value, used, value_or_okay}
+use Rattle.obq_windows.specs.Places.{Bound, bound_names, bound_values, last_bound, member_at, or_this, outside_at, proc_group, proc_outside, value_of, writer_at}
 use Rattle.obq_windows.specs.Trees.{Tag, TreeFocus, TreeFrame, tree_moved}
 use Rattle.obq_windows.specs.Values.{AValue, ClosureValue, ExceptionValue, IntValue, LocationValue, OkayValue, PlainValue, Table, TextValue, ThreadValue, TruthValue, captured_at}
 use Rattle.obq_windows.specs.Windows.{Activation, NodeFocus, NodeFrame, NodeHere, NodeMoved, NodeValue, Store, capture, node_at, node_moved, slot_value, use_node, use_slot}
@@ -118,6 +118,32 @@ capture_is {R} T S act b bound w mg (x ∷ xs) h =
         right : (a c : Bool) → c ≡ true → (a || c) ≡ true
         right true c e = refl
         right false c e = e
+
+-- what stands at a name that is assigned to is in its slot
+pub target_alike : {R : Type 0} → (T : Table R) (S : Store R) → Agrees T S → (act : Activation R) (b : ℕ) (bound : List (Bound R)) → IsBound act b bound → ((k : ℕ) → k < length (outside_at T (place_at act bound)).members → act.group ≡ proc_group (T.procs act.code)) → (x : Bytes)
+    → slot_value S act (slot_of (outside_at T (place_at act bound)) (bound_names bound) x) ≡ target_value T (place_at act bound) x
+target_alike {R} T S g act b bound w mg x = at (is_covered (outside_at T (place_at act bound)) (bound_names bound) x) refl where
+  none : (o : Option ℕ) → is_some o ≡ false → o ≡ None
+  none None e = refl
+  none (Some k) e = absurd (true_false e)
+
+  apart : (a c d : Bool) → (a || (c || d)) ≡ false → (a ≡ false) × (c ≡ false) × (d ≡ false)
+  apart false false false e = (refl, refl, refl)
+  apart true c d e = absurd (true_false e)
+  apart false true d e = absurd (true_false e)
+  apart false false true e = absurd (true_false e)
+
+  uncovered : is_covered (outside_at T (place_at act bound)) (bound_names bound) x ≡ false → slot_of (outside_at T (place_at act bound)) (bound_names bound) x ≡ s.Stdout (proc_outside (T.procs act.code)).source
+  uncovered e =
+      let f = apart _ _ _ e in
+      ap (λ z. slot_or s.Local z (slot_or s.Member (last_place x (proc_outside (T.procs act.code)).members) (slot_or s.Captured (last_place x (proc_outside (T.procs act.code)).captured) (s.Stdout (proc_outside (T.procs act.code)).source)))) (none _ (sym (among_place 0 x (bound_names bound)) ∙ f.0))
+      ∙ ap (λ z. slot_or s.Member z (slot_or s.Captured (last_place x (proc_outside (T.procs act.code)).captured) (s.Stdout (proc_outside (T.procs act.code)).source))) (none _ (sym (among_place 0 x (proc_outside (T.procs act.code)).members) ∙ f.1))
+      ∙ ap (λ z. slot_or s.Captured z (s.Stdout (proc_outside (T.procs act.code)).source)) (none _ (sym (among_place 0 x (proc_outside (T.procs act.code)).captured) ∙ f.2))
+
+  at : (c : Bool) → is_covered (outside_at T (place_at act bound)) (bound_names bound) x ≡ c
+      → slot_value S act (slot_of (outside_at T (place_at act bound)) (bound_names bound) x) ≡ (if c then value_or_okay (value_of T (place_at act bound) x) else LocationValue Writer (writer_at T (place_at act bound)))
+  at true e = sym (ap value_or_okay (slot_is T S act b bound w mg x e))
+  at false e = ap (slot_value S act) (uncovered e) ∙ ap (LocationValue Writer) (g.writer (proc_outside (T.procs act.code)).source)
 
 -- a value that is used
 pub used_alike : {R : Type 0} → (T : Table R) (S : Store R) (act : Activation R) (b : ℕ) (ns : List (NodeFrame R)) (fs : List (TreeFrame R)) → FramesAre T S act b ns fs → (v : PlainValue R) → Same T S (use_slot true act ns v) (used (Some v) fs)
