@@ -11,7 +11,7 @@ use Rattle.obq_model.proofs.Among.{true_false}
 use Rattle.obq_model.proofs.Plug.{needs_plug, operands, step_plug}
 use Rattle.obq_windows.specs.Meanings.{Moves}
 use Rattle.obq_windows.specs.Moves.{act_ends, count_activations, tree_act}
-use Rattle.obq_windows.specs.Trees.{Kept, KeptRaising, KeptValue, PlainBroadcast, PlainGet, PlainInvoke, PlainItemOf, PlainJoin, PlainNewArray, PlainNewCondition, PlainNewVariable, PlainOperation, PlainRead, PlainRedirect, PlainSetAlias, PlainSetItem, PlainSetValue, PlainSetVariable, PlainSignal, PlainSize, PlainWrite, TreeAct, TreeAfter, TreeFrame, TreeRaising, TreeValue, act_form, frames_of, kept_term, read_operation, scope_after, term_of}
+use Rattle.obq_windows.specs.Trees.{Kept, KeptRaising, KeptValue, PlainBroadcast, PlainGet, PlainInvoke, PlainItemOf, PlainJoin, PlainLeave, PlainNewArray, PlainNewCondition, PlainNewVariable, PlainOperation, PlainRead, PlainRedirect, PlainSetAlias, PlainSetItem, PlainSetValue, PlainSetVariable, PlainSignal, PlainSize, PlainWrite, TreeAct, TreeAfter, TreeFrame, TreeRaising, TreeValue, act_form, frames_of, kept_term, read_operation, scope_after, term_of}
 use Rattle.obq_windows.specs.Values.{Table, read_all}
 use Rattle.obq_windows.proofs.Around.{are_frames, asks, found_in, to_here}
 use Rattle.obq_windows.proofs.Begins.{counted, length_read}
@@ -44,6 +44,8 @@ act_is eq T a s (PlainSetItem r i v) scope = refl
 act_is eq T a s (PlainSetValue o x v) scope = refl
 act_is eq T a s (PlainSetAlias o x q y) scope = refl
 act_is eq T a s (PlainRedirect o q) scope = refl
+act_is eq T a s (PlainLeave o (KeptValue v)) scope = refl
+act_is eq T a s (PlainLeave o (KeptRaising r)) scope = refl
 act_is eq T a s (PlainSignal c) scope = refl
 act_is eq T a s (PlainBroadcast c) scope = refl
 act_is eq T a s (PlainJoin t) scope = refl

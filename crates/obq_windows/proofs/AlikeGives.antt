@@ -9,15 +9,15 @@ use Rattle.obq_model.specs.CodeLaws.{nodes_of}
 use Rattle.obq_model.specs.Draft.{Both, captured_by, count_arms, count_binds, count_exprs, count_items, count_suffixes, draft_arms, draft_binds, draft_block, draft_expr, draft_field, draft_items, draft_links, draft_maybe, draft_suffix, draft_suffixes, has_block, operators_of}
 use Rattle.obq_model.specs.Occurrences.{bind_names}
 use Rattle.obq_model.specs.Scopes.{slots_of}
-use Rattle.obq_model.specs.Terms.{Apply, Array, Bytes, Condition, Engine, Index, Invoke, Object, Select, Variable, Writer}
+use Rattle.obq_model.specs.Terms.{Apply, Array, Bytes, Condition, Engine, Held, Index, Inner, Invoke, Mode, Object, Plain, Select, Variable, Writer}
 use Rattle.obq_model.proofs.Among.{true_false}
 use Rattle.obq_model.proofs.Drafted.{drafted_block, drafted_expr, drafted_suffix}
 use Rattle.obq_windows.specs.Agrees.{AfterIs, Agrees, FramesAre, IsBound, Same, StandsAt, place_at}
-use Rattle.obq_windows.specs.Moves.{begin_args, begin_arms, begin_binds, begin_count, begin_vars, count_at, give_and, give_field, give_guard, give_if, give_left, give_or, give_raise, give_suffix, give_to, next_count, tree_act, with_links, with_suffixes}
+use Rattle.obq_windows.specs.Moves.{begin_args, begin_arms, begin_binds, begin_count, begin_vars, count_at, give_and, give_field, give_guard, give_if, give_left, give_or, give_raise, give_suffix, give_to, leave_tree, next_count, tree_act, with_links, with_suffixes}
 use Rattle.obq_windows.specs.Places.{Bound, bind_of, bound_names, outside_at, with_bound}
-use Rattle.obq_windows.specs.Trees.{Asks, BlockTask, ExprTask, Kept, KeptRaising, KeptValue, PendingChain, PendingCount, PendingGuard, PendingRight, PlainGet, PlainOperation, Silent, Stepped, ToCall, ToIndex, ToInvoke, ToSetAlias, ToSetValue, TreeAct, TreeAfter, TreeFrame, TreeHere, TreeRaising, TreeRun, TreeUnmet, TreeValue, push, tree_moved, tree_raises}
+use Rattle.obq_windows.specs.Trees.{Asks, BlockTask, ExprTask, Kept, KeptRaising, KeptValue, PendingChain, PendingCount, PendingGuard, PendingRight, PlainGet, PlainLeave, PlainOperation, Silent, Stepped, ToCall, ToIndex, ToInvoke, ToSetAlias, ToSetValue, TreeAct, TreeAfter, TreeFrame, TreeHere, TreeRaising, TreeRun, TreeUnmet, TreeValue, push, tree_moved, tree_raises}
 use Rattle.obq_windows.specs.Values.{ClosureValue, ExceptionValue, IntValue, LocationValue, OkayValue, PlainValue, Table, TextValue, ThreadValue, TruthValue}
-use Rattle.obq_windows.specs.Windows.{Activation, NodeAct, NodeAfter, NodeChain, NodeCount, NodeFrame, NodeGuard, NodeHere, NodeMoved, NodeRaising, NodeRight, NodeRun, NodeUnmet, NodeValue, Store, act_node, args_node, bind, binds_node, count_node, count_node_at, give_node_and, give_node_field, give_node_guard, give_node_if, give_node_left, give_node_or, give_node_raise, give_node_suffix, give_node_to, guards_node, next_count_node, node_at, node_moved, node_raises, operator_in, vars_node, with_operator, with_suffix}
+use Rattle.obq_windows.specs.Windows.{Activation, NodeAct, NodeAfter, NodeChain, NodeCount, NodeFrame, NodeGuard, NodeHere, NodeMoved, NodeRaising, NodeRight, NodeRun, NodeUnmet, NodeValue, Store, act_node, args_node, bind, binds_node, count_node, count_node_at, give_node_and, give_node_field, give_node_guard, give_node_if, give_node_left, give_node_or, give_node_raise, give_node_suffix, give_node_to, guards_node, leave_node, next_count_node, node_at, node_moved, node_raises, operator_in, vars_node, with_operator, with_suffix}
 use Rattle.obq_windows.proofs.Alike.{arms_alike, at_node, expr_head, plain_node, suffix_frames}
 use Rattle.obq_windows.proofs.AlikeCalls.{alone, args_alike}
 use Rattle.obq_windows.proofs.AlikeItems.{binds_alike, respelled, vars_alike}
@@ -194,6 +194,13 @@ head_given T S g a act b bound w ns fs fr at (InvokeSuffix x es place) ss h v =
 head_given T S g a act b bound w ns fs fr at (IndexSuffix e place) ss h v =
     at_node T S act.code at n.Index (give_node_suffix S a v act (with_suffix (S.end act.code at) (count_suffixes ss) b ns) at b) _ (node_here T S (first_of T S h))
     (args_alike T S g a act b bound w _ _ (suffix_frames T S act b bound w ns fs fr (S.end act.code at) ss (second_of T S g (drafted_suffix _ _ None (IndexSuffix e place)) h)) ToIndex (v ∷ []) (suc at) (AnExpr e NoExprs) (alone T S (next_here T S (first_of T S h))))
+
+pub leave_alike : {R : Type 0} → (T : Table R) (S : Store R) (act : Activation R) (b : ℕ) (ns : List (NodeFrame R)) (fs : List (TreeFrame R)) → FramesAre T S act b ns fs → (o : R) (m : Mode) (k : Kept R) → Same T S (leave_node o m k act ns) (leave_tree o m k fs)
+leave_alike T S act b ns fs fr o Held k = alike T S (Asks (PlainLeave o k)) act b ns (NodeAct (PlainLeave o k) NodeHere) fs (TreeAct (PlainLeave o k) TreeHere) fr (NodeHere, refl, refl)
+leave_alike T S act b ns fs fr o Plain (KeptValue v) = alike T S Stepped act b ns (NodeValue v) fs (TreeValue v) fr refl
+leave_alike T S act b ns fs fr o Plain (KeptRaising r) = alike T S Stepped act b ns (NodeRaising r) fs (TreeRaising r) fr refl
+leave_alike T S act b ns fs fr o Inner (KeptValue v) = alike T S Stepped act b ns (NodeValue v) fs (TreeValue v) fr refl
+leave_alike T S act b ns fs fr o Inner (KeptRaising r) = alike T S Stepped act b ns (NodeRaising r) fs (TreeRaising r) fr refl
 
 field_plain : {R : Type 0} → (S : Store R) (k : ℕ) (v : PlainValue R) (x : Bytes) (act : Activation R) (ns : List (NodeFrame R)) (child b : ℕ) (a : Node) → plain_node a ≡ true → give_node_field S k v x act ns child b (Some a) ≡ args_node S k (ToSetValue x) act (v ∷ []) child 1 b ns
 field_plain S k v x act ns child b (n.Alias y) e = absurd (true_false (sym e))

@@ -13,7 +13,7 @@ use Rattle.obq_windows.specs.Agrees.{AfterIs, Agrees, Alike, FocusIs, FramesAre,
 use Rattle.obq_windows.specs.Complete.{CompleteAfter, CompleteFocus, CompleteFrames, CompleteOperation, IsComplete}
 use Rattle.obq_windows.specs.Moves.{begin_vars}
 use Rattle.obq_windows.specs.Places.{Place, bind_of, outside_at, with_bound}
-use Rattle.obq_windows.specs.Trees.{BlockTask, ExprTask, ItemsTask, PlainBroadcast, PlainGet, PlainInvoke, PlainItemOf, PlainJoin, PlainNewArray, PlainNewCondition, PlainNewVariable, PlainOperation, PlainRead, PlainRedirect, PlainSetAlias, PlainSetItem, PlainSetValue, PlainSetVariable, PlainSignal, PlainSize, PlainWrite, Silent, TreeAct, TreeAfter, TreeFocus, TreeFrame, TreeHere, TreeMoved, TreeRaising, TreeRun, TreeUnder, TreeUnmet, TreeValue, frames_of, names_at, read_operation, scope_after, term_of, tree_moved, vars_at}
+use Rattle.obq_windows.specs.Trees.{BlockTask, ExprTask, ItemsTask, PlainBroadcast, PlainGet, PlainInvoke, PlainItemOf, PlainJoin, PlainLeave, PlainNewArray, PlainNewCondition, PlainNewVariable, PlainOperation, PlainRead, PlainRedirect, PlainSetAlias, PlainSetItem, PlainSetValue, PlainSetVariable, PlainSignal, PlainSize, PlainWrite, Silent, TreeAct, TreeAfter, TreeFocus, TreeFrame, TreeHere, TreeMoved, TreeRaising, TreeRun, TreeUnder, TreeUnmet, TreeValue, frames_of, names_at, read_operation, scope_after, term_of, tree_moved, vars_at}
 use Rattle.obq_windows.specs.Values.{OkayValue, PlainValue, Table, read_value}
 use Rattle.obq_windows.specs.Windows.{Activation, NodeAct, NodeAfter, NodeFocus, NodeFrame, NodeHere, NodeMoved, Store, bind, vars_node}
 use Rattle.obq_windows.proofs.Acts.{Asked, act_asks}
@@ -94,6 +94,7 @@ value_answered {R} T S g act b ns fs fr k (PlainItemOf r i) na after h l v c = r
 value_answered {R} T S g act b ns fs fr k (PlainSize r) na after h l v c = record { same = record { tag = refl; makes = refl; height = b; frames = fr; focus = refl }; complete = record { frames = k; focus = c }; term = refl }
 value_answered {R} T S g act b ns fs fr k (PlainNewArray vs) na after h l v c = record { same = record { tag = refl; makes = refl; height = b; frames = fr; focus = refl }; complete = record { frames = k; focus = c }; term = refl }
 value_answered {R} T S g act b ns fs fr k PlainNewCondition na after h l v c = record { same = record { tag = refl; makes = refl; height = b; frames = fr; focus = refl }; complete = record { frames = k; focus = c }; term = refl }
+value_answered {R} T S g act b ns fs fr k (PlainLeave o u) na after h l v c = record { same = record { tag = refl; makes = refl; height = b; frames = fr; focus = refl }; complete = record { frames = k; focus = c }; term = refl }
 value_answered {R} T S g act b ns fs fr k (PlainSetVariable r u) na after h l v c = record { same = record { tag = refl; makes = refl; height = b; frames = fr; focus = refl }; complete = record { frames = k; focus = c }; term = refl }
 value_answered {R} T S g act b ns fs fr k (PlainSetItem r i u) na after h l v c = record { same = record { tag = refl; makes = refl; height = b; frames = fr; focus = refl }; complete = record { frames = k; focus = c }; term = refl }
 value_answered {R} T S g act b ns fs fr k (PlainSetValue o x u) na after h l v c = record { same = record { tag = refl; makes = refl; height = b; frames = fr; focus = refl }; complete = record { frames = k; focus = c }; term = refl }

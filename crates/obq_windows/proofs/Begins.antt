@@ -16,7 +16,7 @@ use Rattle.obq_windows.specs.Meanings.{Moves}
 use Rattle.obq_windows.specs.Moves.{begin_args, call_code, call_plain, count_activations, finish_args, is_activation, tree_result, with_suffixes}
 use Rattle.obq_windows.specs.Places.{Place}
 use Rattle.obq_windows.specs.Results.{Beyond, Does, Gives, PlainResult, Raises, alias_set, applied, array_made, indexed, invoked, item_set, redirected, value_set}
-use Rattle.obq_windows.specs.Trees.{Callee, ExprTask, PendingArguments, PendingAssign, PendingCalled, PendingChain, PendingCount, PendingField, PendingFirst, PendingForm, PendingGuard, PendingHead, PendingIf, PendingKept, PendingLast, PendingLet, PendingLoop, PendingRaise, PendingRight, PendingThen, PendingTo, PendingTry, PendingVar, PlainInvoke, PlainNewArray, Silent, Stepped, ToArray, ToBuiltin, ToCall, ToIndex, ToInvoke, ToRedirect, ToSetAlias, ToSetIndex, ToSetValue, TreeFrame, TreeHere, TreeMoved, TreeRun, TreeValue, callee_frame, expr_at, exprs_at, field_frame, frames_of, link_frame, links_around, pending_frames, push, suffix_frame, suffixes_around, tree_moved, tree_raises}
+use Rattle.obq_windows.specs.Trees.{Callee, ExprTask, PendingArguments, PendingAssign, PendingCalled, PendingChain, PendingCount, PendingField, PendingFirst, PendingForm, PendingGuard, PendingHead, PendingIf, PendingKept, PendingLast, PendingLet, PendingLoop, PendingRaise, PendingRight, PendingThen, PendingTo, PendingTry, PendingVar, PendingWithin, PlainInvoke, PlainNewArray, Silent, Stepped, ToArray, ToBuiltin, ToCall, ToIndex, ToInvoke, ToRedirect, ToSetAlias, ToSetIndex, ToSetValue, TreeFrame, TreeHere, TreeMoved, TreeRun, TreeValue, callee_frame, expr_at, exprs_at, field_frame, frames_of, link_frame, links_around, pending_frames, push, suffix_frame, suffixes_around, tree_moved, tree_raises}
 use Rattle.obq_windows.specs.Values.{ClosureValue, ExceptionValue, IntValue, IsMadeTable, LocationValue, OkayValue, PlainValue, Table, TextValue, ThreadValue, TruthValue, closure_of, proc_named, proc_of, read_all, read_value, read_values}
 use Rattle.obq_windows.proofs.Around.{asks, found_in, pushed, silent, to_here}
 use Rattle.obq_windows.proofs.BuiltIns.{applied_is}
@@ -72,6 +72,7 @@ count_pend T a p (PendingArguments ToRedirect done es) = refl
 count_pend T a p (PendingArguments (ToInvoke x) done es) = refl
 count_pend T a p PendingRaise = refl
 count_pend T a p PendingCalled = refl
+count_pend T a p (PendingWithin o m) = refl
 count_pend T a p (PendingTry arms last) = refl
 count_pend T a p (PendingGuard e b arms last) = refl
 count_pend T a p (PendingLast b) = refl

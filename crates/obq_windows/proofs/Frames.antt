@@ -6,9 +6,9 @@ use Rattle.obq_base.specs.Tree.{AnItem, NoItems}
 use Rattle.obq_model.specs.Effect.{kept}
 use Rattle.obq_windows.specs.Agrees.{FrameIs, FramesAre, IsBound, PlaceIs, act_behind, height_behind}
 use Rattle.obq_windows.specs.Places.{Bound, Place, bound_values}
-use Rattle.obq_windows.specs.Trees.{PendingArguments, PendingAssign, PendingCalled, PendingChain, PendingCount, PendingField, PendingFirst, PendingForm, PendingGuard, PendingHead, PendingIf, PendingKept, PendingLast, PendingLet, PendingLoop, PendingRaise, PendingRight, PendingThen, PendingTo, PendingTry, PendingVar, TreeFrame}
+use Rattle.obq_windows.specs.Trees.{PendingArguments, PendingAssign, PendingCalled, PendingChain, PendingCount, PendingField, PendingFirst, PendingForm, PendingGuard, PendingHead, PendingIf, PendingKept, PendingLast, PendingLet, PendingLoop, PendingRaise, PendingRight, PendingThen, PendingTo, PendingTry, PendingVar, PendingWithin, TreeFrame}
 use Rattle.obq_windows.specs.Values.{PlainValue, Table}
-use Rattle.obq_windows.specs.Windows.{Activation, NodeArguments, NodeAssign, NodeCalled, NodeChain, NodeCount, NodeField, NodeFirst, NodeFrame, NodeGuard, NodeHead, NodeIf, NodeKept, NodeLast, NodeLet, NodeLoop, NodeRaise, NodeRight, NodeThen, NodeTo, NodeTry, NodeVar, Store, bind}
+use Rattle.obq_windows.specs.Windows.{Activation, NodeArguments, NodeAssign, NodeCalled, NodeChain, NodeCount, NodeField, NodeFirst, NodeFrame, NodeGuard, NodeHead, NodeIf, NodeKept, NodeLast, NodeLet, NodeLoop, NodeRaise, NodeRight, NodeThen, NodeTo, NodeTry, NodeVar, NodeWithin, Store, bind}
 
 -- ---- more binders in force
 
@@ -27,6 +27,7 @@ frame_up T S act b c f p (PendingHead x ss) l h = (h.0, h.1, h.2, at_most _ b c 
 frame_up T S act b c f p (PendingArguments callee done es) l h = (h.0, h.1, h.2, at_most _ b c h.3 l, h.4, h.5)
 frame_up T S act b c f p PendingRaise l h = h
 frame_up T S act b c f p PendingCalled l h = h
+frame_up T S act b c f p (PendingWithin o m) l h = h
 frame_up T S act b c f p (PendingTry arms last) l h = (h.0, h.1, h.2, at_most _ b c h.3 l, h.4, h.5)
 frame_up T S act b c f p (PendingGuard e block arms last) l h = (h.0, h.1, h.2, at_most _ b c h.3 l, h.4, h.5)
 frame_up T S act b c f p (PendingLast block) l h = (h.0, h.1, h.2, at_most _ b c h.3 l, h.4, h.5)
@@ -49,6 +50,7 @@ heights b c (NodeHead at left h) = inl refl
 heights b c (NodeArguments callee done child left h) = inl refl
 heights b c NodeRaise = inr (refl, refl)
 heights b c (NodeCalled caller) = inl refl
+heights b c (NodeWithin caller o m) = inl refl
 heights b c (NodeTry child arms last h) = inl refl
 heights b c (NodeGuard e child arms last h) = inl refl
 heights b c (NodeLast child h) = inl refl
@@ -104,6 +106,7 @@ frame_kept T S act b h vs f p (PendingHead x ss) l k = (k.0, k.1, k.2, k.3, plac
 frame_kept T S act b h vs f p (PendingArguments callee done es) l k = (k.0, k.1, k.2, k.3, place_kept act _ h vs p (at_most _ b h k.3 l) k.4, k.5)
 frame_kept T S act b h vs f p PendingRaise l k = k
 frame_kept T S act b h vs f p PendingCalled l k = k
+frame_kept T S act b h vs f p (PendingWithin o m) l k = k
 frame_kept T S act b h vs f p (PendingTry arms last) l k = (k.0, k.1, k.2, k.3, place_kept act _ h vs p (at_most _ b h k.3 l) k.4, k.5)
 frame_kept T S act b h vs f p (PendingGuard e block arms last) l k = (k.0, k.1, k.2, k.3, place_kept act _ h vs p (at_most _ b h k.3 l) k.4, k.5)
 frame_kept T S act b h vs f p (PendingLast block) l k = (k.0, k.1, k.2, k.3, place_kept act _ h vs p (at_most _ b h k.3 l) k.4, k.5)
@@ -116,7 +119,7 @@ frame_kept T S act b h vs f p (PendingTo first x block) l k = (k.0, k.1, k.2, k.
 frame_kept T S act b h vs f p (PendingCount i n x block) l k = (k.0, k.1, k.2, k.3, place_kept act _ h vs p (at_most _ b h k.3 l) k.4, k.5)
 
 -- behind a frame of the same activation no more binders are in force
-frame_low : {R : Type 0} → (T : Table R) (S : Store R) (act : Activation R) (b : ℕ) (f : NodeFrame R) (p : Place R) (pending : PendingForm R) → FrameIs T S act b f p pending → (height_behind b f ≤ b) ⊎ ((caller : Activation R) × (f ≡ NodeCalled caller))
+frame_low : {R : Type 0} → (T : Table R) (S : Store R) (act : Activation R) (b : ℕ) (f : NodeFrame R) (p : Place R) (pending : PendingForm R) → FrameIs T S act b f p pending → (height_behind b f ≤ b) ⊎ ((z : Activation R) → act_behind act f ≡ act_behind z f)
 frame_low T S act b f p (PendingThen NoItems) k = absurd k
 frame_low {R} T S act b f p (PendingThen (AnItem i is)) k = inl (subst (λ (z : NodeFrame R). height_behind b z ≤ b) (sym k.2) k.3)
 frame_low {R} T S act b f p (PendingLet x bs is) k = inl (subst (λ (z : NodeFrame R). height_behind b z ≤ b) (sym k.3) k.4)
@@ -127,7 +130,8 @@ frame_low {R} T S act b f p (PendingRight v op) k = inl (subst (λ (z : NodeFram
 frame_low {R} T S act b f p (PendingHead x ss) k = inl (subst (λ (z : NodeFrame R). height_behind b z ≤ b) (sym k.2) k.3)
 frame_low {R} T S act b f p (PendingArguments callee done es) k = inl (subst (λ (z : NodeFrame R). height_behind b z ≤ b) (sym k.2) k.3)
 frame_low {R} T S act b f p PendingRaise k = inl (subst (λ (z : NodeFrame R). height_behind b z ≤ b) (sym k) (omega arith))
-frame_low T S act b f p PendingCalled k = inr k
+frame_low {R} T S act b f p PendingCalled k = inr (λ z. ap (λ (g : NodeFrame R). act_behind act g) k.1 ∙ sym (ap (λ (g : NodeFrame R). act_behind z g) k.1))
+frame_low {R} T S act b f p (PendingWithin o m) k = inr (λ z. ap (λ (g : NodeFrame R). act_behind act g) k.1 ∙ sym (ap (λ (g : NodeFrame R). act_behind z g) k.1))
 frame_low {R} T S act b f p (PendingTry arms last) k = inl (subst (λ (z : NodeFrame R). height_behind b z ≤ b) (sym k.2) k.3)
 frame_low {R} T S act b f p (PendingGuard e block arms last) k = inl (subst (λ (z : NodeFrame R). height_behind b z ≤ b) (sym k.2) k.3)
 frame_low {R} T S act b f p (PendingLast block) k = inl (subst (λ (z : NodeFrame R). height_behind b z ≤ b) (sym k.2) k.3)
@@ -150,6 +154,7 @@ acts act h vs (NodeHead at left hh) = inl (refl, refl)
 acts act h vs (NodeArguments callee done child left hh) = inl (refl, refl)
 acts act h vs NodeRaise = inl (refl, refl)
 acts act h vs (NodeCalled caller) = inr refl
+acts act h vs (NodeWithin caller o m) = inr refl
 acts act h vs (NodeTry child arms last hh) = inl (refl, refl)
 acts act h vs (NodeGuard e child arms last hh) = inl (refl, refl)
 acts act h vs (NodeLast child hh) = inl (refl, refl)
@@ -169,7 +174,7 @@ frames_kept {R} T S act b h vs ns (t ∷ fs) l k = (
   k.2,
   frame_kept T S act b h vs k.0 t.place t.pending l k.3,
   elim (frame_low T S act b k.0 t.place t.pending k.3) [
-    | inr c ↦ subst (λ (z : Activation R). FramesAre T S z (height_behind b k.0) k.1 fs) (ap (act_behind act) c.1 ∙ sym (ap (act_behind (bind act h vs)) c.1)) k.4
+    | inr c ↦ subst (λ (z : Activation R). FramesAre T S z (height_behind b k.0) k.1 fs) (c (bind act h vs)) k.4
     | inl low ↦ elim (acts act h vs k.0) [
       | inr e ↦ subst (λ (z : Activation R). FramesAre T S z (height_behind b k.0) k.1 fs) e k.4
       | inl e ↦ subst (λ (z : Activation R). FramesAre T S z (height_behind b k.0) k.1 fs) e.1 (frames_kept T S act (height_behind b k.0) h vs k.1 fs (at_most _ b h low l) (subst (λ (z : Activation R). FramesAre T S z (height_behind b k.0) k.1 fs) e.0 k.4))

@@ -10,14 +10,14 @@ use Rattle.obq_model.specs.Opened.{builtin_at, open_binds, open_block, open_item
 use Rattle.obq_model.specs.Put.{enter}
 use Rattle.obq_model.specs.Reading.{Env, hide, read}
 use Rattle.obq_model.specs.Step.{Frame, Next, Self, activations_at, choose, counting, fill, find, find_part, plug, self_at, values_before}
-use Rattle.obq_model.specs.Terms.{AndIf, Apply, Array, Bytes, Call, Choosing, Condition, Const, Counting, End, Engine, Exc, For, Form, If, Index, Int, Invoke, Kind, Let, MakeArray, Object, Okay, OrIf, Part, Parts, Raise, Redirect, Select, SetAlias, SetIndex, SetValue, Term, Truth, Try, Under, Value, Var, Variable, Writer}
+use Rattle.obq_model.specs.Terms.{AndIf, Apply, Array, Bytes, Call, Choosing, Condition, Const, Counting, End, Engine, Exc, For, Form, Held, If, Index, Inner, Int, Invoke, Kind, Let, MakeArray, Mode, Object, Okay, OrIf, Part, Parts, Plain, Raise, Redirect, Select, SetAlias, SetIndex, SetValue, Term, Truth, Try, Under, Value, Var, Variable, Within, Writer}
 use Rattle.obq_model.proofs.Plug.{plug_append}
 use Rattle.obq_model.proofs.PutRead.{put_read}
 use Rattle.obq_windows.specs.Meanings.{Moves}
-use Rattle.obq_windows.specs.Moves.{begin_args, begin_arms, begin_binds, begin_count, begin_if, begin_rest, count_activations, count_at, give_and, give_field, give_guard, give_if, give_left, give_or, give_pending, give_raise, give_suffix, give_to, going_on, next_count, target_value, tree_result, with_links, with_suffixes}
+use Rattle.obq_windows.specs.Moves.{begin_args, begin_arms, begin_binds, begin_count, begin_if, begin_rest, count_activations, count_at, give_and, give_field, give_guard, give_if, give_left, give_or, give_pending, give_raise, give_suffix, give_to, going_on, leave_tree, next_count, target_value, tree_result, with_links, with_suffixes}
 use Rattle.obq_windows.specs.Places.{Place, bind_of, env_at, outside_at, with_bound, writer_at}
 use Rattle.obq_windows.specs.Results.{assigned, operated}
-use Rattle.obq_windows.specs.Trees.{Asks, BlockTask, Callee, ExprTask, KeptRaising, KeptValue, PendingArguments, PendingAssign, PendingCalled, PendingChain, PendingCount, PendingField, PendingFirst, PendingForm, PendingGuard, PendingHead, PendingIf, PendingKept, PendingLast, PendingLet, PendingLoop, PendingRaise, PendingRight, PendingThen, PendingTo, PendingTry, PendingVar, PlainGet, PlainNewVariable, Silent, Stepped, ToArray, ToBuiltin, ToCall, ToIndex, ToInvoke, ToRedirect, ToSetAlias, ToSetIndex, ToSetValue, TreeAct, TreeFrame, TreeHere, TreeRaising, TreeRun, TreeUnder, TreeUnmet, TreeValue, arms_at, block_at, callee_frame, expr_at, exprs_at, field_frame, frames_of, if_at, let_at, link_frame, linked_kind, links_around, names_at, pending_frames, push, scope_at, suffix_frame, suffixes_around, tree_moved, tree_raises, vars_at}
+use Rattle.obq_windows.specs.Trees.{Asks, BlockTask, Callee, ExprTask, Kept, KeptRaising, KeptValue, PendingArguments, PendingAssign, PendingCalled, PendingChain, PendingCount, PendingField, PendingFirst, PendingForm, PendingGuard, PendingHead, PendingIf, PendingKept, PendingLast, PendingLet, PendingLoop, PendingRaise, PendingRight, PendingThen, PendingTo, PendingTry, PendingVar, PendingWithin, PlainGet, PlainLeave, PlainNewVariable, Silent, Stepped, ToArray, ToBuiltin, ToCall, ToIndex, ToInvoke, ToRedirect, ToSetAlias, ToSetIndex, ToSetValue, TreeAct, TreeFrame, TreeHere, TreeRaising, TreeRun, TreeUnder, TreeUnmet, TreeValue, arms_at, block_at, callee_frame, expr_at, exprs_at, field_frame, frames_of, if_at, kept_term, let_at, link_frame, linked_kind, links_around, names_at, pending_frames, push, scope_at, suffix_frame, suffixes_around, tree_moved, tree_raises, vars_at}
 use Rattle.obq_windows.specs.Values.{ClosureValue, ExceptionValue, IntValue, IsMadeTable, LocationValue, OkayValue, PlainValue, Table, TextValue, ThreadValue, TruthValue, proc_of, read_all, read_value, read_values}
 use Rattle.obq_windows.proofs.Around.{asks, found_in, links_frames, pushed, silent, stepped, suffixes_frames, to_here, to_pushed}
 use Rattle.obq_windows.proofs.Begins.{args_right, callee_form, of_term, result_right, suffix_args}
@@ -216,6 +216,14 @@ to_given eq T a s (ThreadValue y) w p x b fs = to_here eq T a s fs _ (tree_raise
 to_given eq T a s (ClosureValue ty cy gy iy csy) w p x b fs = to_here eq T a s fs _ (tree_raises (codes "type")) (closure_cases T (read_values T csy) (proc_of T gy iy) (λ f. find eq (activations_at a (frames_of T fs)) (self_at s (frames_of T fs)) (Form For (Part (Const f) (Part (Const (read_value T w)) (Part (scope_at T p x b) End)))) ≡ Next (wrong_type)) (λ params body. refl) (λ names G i. refl))
 to_given eq T a s (LocationValue ky y) w p x b fs = to_here eq T a s fs _ (tree_raises (codes "type")) refl
 
+pub left_right : {R : Type 0} → (eq : R → R → Bool) (T : Table R) (a : ℕ) (s : Self R) (o : R) (m : Mode) (k : Kept R) (fs : List (TreeFrame R)) → Moves eq T a s (plug (frames_of T fs) (Form (Within o m) (Part (kept_term T k) End))) (leave_tree o m k fs)
+left_right eq T a s o Plain (KeptValue v) fs = to_here eq T a s fs _ (TreeValue v) refl
+left_right eq T a s o Plain (KeptRaising r) fs = to_here eq T a s fs _ (TreeRaising r) refl
+left_right eq T a s o Held (KeptValue v) fs = asks eq T a s fs _ (PlainLeave o (KeptValue v)) TreeHere refl
+left_right eq T a s o Held (KeptRaising r) fs = asks eq T a s fs _ (PlainLeave o (KeptRaising r)) TreeHere refl
+left_right eq T a s o Inner (KeptValue v) fs = to_here eq T a s fs _ (TreeValue v) refl
+left_right eq T a s o Inner (KeptRaising r) fs = to_here eq T a s fs _ (TreeRaising r) refl
+
 field_given : {R : Type 0} → (eq : R → R → Bool) (T : Table R) (a : ℕ) (s : Self R) → IsMadeTable T → (v : PlainValue R) (p : Place R) (x : Bytes) (body : FieldTree) (fs : List (TreeFrame R))
     → Moves eq T a s (plug (frames_of T fs) (fill (field_frame T p x body) (Const (read_value T v)))) (give_field T (count_activations a fs) v p x body fs)
 field_given eq T a s w v p x (ValueOf e) fs = args_right eq T a s w fs (ToSetValue x) p (v ∷ []) (AnExpr e NoExprs)
@@ -254,6 +262,7 @@ given {R} eq T a s w v p (PendingArguments callee done es) fs =
       one_more (ToInvoke x) = ap (Form (Invoke x)) (values_end done)
 given eq T a s w v p PendingRaise fs = of_term eq T a s _ _ (give_raise v fs) (one_frame T fs _ _) (raise_given eq T a s v fs)
 given eq T a s w v p PendingCalled fs = of_term eq T a s _ _ (tree_moved Stepped fs (TreeValue v)) (one_frame T fs _ _) (to_here eq T a s fs _ (TreeValue v) refl)
+given eq T a s w v p (PendingWithin o m) fs = of_term eq T a s _ _ (leave_tree o m (KeptValue v) fs) (one_frame T fs _ _) (left_right eq T a s o m (KeptValue v) fs)
 given eq T a s w v p (PendingTry arms last) fs = of_term eq T a s _ _ (tree_moved Stepped fs (TreeValue v)) (one_frame T fs _ _) (to_here eq T a s fs _ (TreeValue v) (try_value eq (activations_at a (frames_of T fs)) (self_at s (frames_of T fs)) (read_value T v) (arms_at T p arms last)))
 given eq T a s w v p (PendingGuard e b arms last) fs = of_term eq T a s _ _ (give_guard v p e b arms last fs) (one_frame T fs _ _) (guard_given eq T a s v p e b arms last fs)
 given eq T a s w v p (PendingLast b) fs = of_term eq T a s _ _ (tree_moved Stepped (push p (PendingKept (KeptValue v)) fs) (TreeRun p (BlockTask b))) (one_frame T fs _ _) (to_pushed eq T a s fs _ p (PendingKept (KeptValue v)) (TreeRun p (BlockTask b)) refl)
