@@ -1,6 +1,6 @@
 -- Calls: nodes and trees do the same.
-use Rattle.std.specs.Prelude.{Bool, List, None, Option, Some, [], codes, false, if◌then◌else◌, length, refl, slice_get, suc, take, true, zero, ℕ, ◌==◌, ◌∷◌, ◌≡◌, ◌≤◌}
-use Rattle.std.proofs.Common.{ap, arith, inl, subst, sym, ◌∙◌}
+use Rattle.std.specs.Prelude.{Bool, List, None, Option, Some, [], codes, false, if◌then◌else◌, length, refl, slice_get, suc, take, true, ℕ, ◌==◌, ◌∷◌, ◌≡◌}
+use Rattle.std.proofs.Common.{ap, arith, inl, subst, sym}
 use Rattle.obq_base.specs.Tree.{AnExpr, ExprTrees, NoExprs}
 use Rattle.obq_base.specs.declared.code.Code.{Code}
 use Rattle.obq_base.specs.declared.code.CodeNo.{CodeNo}
@@ -9,11 +9,11 @@ use Rattle.obq_model.specs.CodeLaws.{IsCodeAt, nodes_of}
 use Rattle.obq_model.specs.Draft.{Both, Done, Draft, count_exprs, draft_block, draft_exprs}
 use Rattle.obq_model.specs.Opened.{builtin_at}
 use Rattle.obq_model.specs.Procedures.{Proc}
-use Rattle.obq_model.specs.Resolved.{IsCode}
+use Rattle.obq_model.specs.Resolved.{IsCode, IsNumbered}
 use Rattle.obq_model.specs.Step.{is_call_limit}
 use Rattle.obq_model.specs.Terms.{Array, Bytes, Condition, Engine, Object, Variable, Writer}
 use Rattle.obq_model.proofs.Drafted.{drafted_expr}
-use Rattle.obq_windows.specs.Agrees.{Agrees, FramesAre, IsBound, Same, StandsAt, place_at}
+use Rattle.obq_windows.specs.Agrees.{Agrees, FocusIs, FramesAre, IsBound, Same, StandsAt, place_at}
 use Rattle.obq_windows.specs.Moves.{begin_args, call_code, call_plain, entered, finish_args, tree_result}
 use Rattle.obq_windows.specs.Places.{Bound, bound_names, bound_values, outside_at, place_of, proc_outside, zipped}
 use Rattle.obq_windows.specs.Results.{Beyond, Does, Gives, PlainResult, Raises, alias_set, applied, array_made, indexed, invoked, item_set, redirected, value_set}
@@ -22,7 +22,7 @@ use Rattle.obq_windows.specs.Values.{ClosureValue, ExceptionValue, IntValue, Loc
 use Rattle.obq_windows.specs.Windows.{Activation, NodeAct, NodeArguments, NodeCalled, NodeFrame, NodeHere, NodeRun, NodeValue, Store, activation_of, args_node, call_node_code, call_node_plain, enter_code, finish_node, node_moved, node_raises, node_result}
 use Rattle.obq_windows.proofs.Calls.{same_length}
 use Rattle.obq_windows.proofs.Envs.{zipped_names}
-use Rattle.obq_windows.proofs.Frames.{frames_up, length_values}
+use Rattle.obq_windows.proofs.Frames.{frames_up, in_force}
 use Rattle.obq_windows.proofs.Slots.{alike, first_of, not_above, second_of}
 
 zipped_values : {R : Type 0} → (xs : List Bytes) (vs : List (PlainValue R)) → length xs ≡ length vs → take (length vs) vs ≡ bound_values (zipped xs vs)
@@ -45,18 +45,21 @@ length_zipped (x ∷ xs) [] e = absurd (none (length xs) e) where
   none k e = omega (arith, e)
 length_zipped (x ∷ xs) (v ∷ vs) e = ap suc (length_zipped xs vs (omega (arith, e)))
 
--- the binders in force have their values
-take_length : {A : Type 0} → (k : ℕ) (l : List A) → length (take k l) ≡ k → k ≤ length l
-take_length zero l e = omega arith
-take_length (suc k) [] e = absurd (none k e) where
-  none : (k : ℕ) → 0 ≡ suc k → ⊥
-  none k e = omega (arith, e)
-take_length (suc k) (x ∷ l) e = up_one k (length l) (take_length k l (omega (arith, e))) where
-  up_one : (k m : ℕ) → k ≤ m → suc k ≤ suc m
-  up_one k m h = omega (arith, h)
-
-pub in_force : {R : Type 0} → (act : Activation R) (b : ℕ) (bound : List (Bound R)) → IsBound act b bound → b ≤ length act.locals
-in_force act b bound w = take_length b act.locals (ap length w.values ∙ length_values bound ∙ sym w.many)
+-- where a procedure is entered its code begins
+pub at_entry : {R : Type 0} → (T : Table R) (S : Store R) (thread count : ℕ) (group : List CodeNo) (number : CodeNo) (cs : PlainValues R) (vs : List (PlainValue R)) (c : Code) (q : Proc) → S.code number ≡ Some c → IsNumbered T.procs number c q → length q.params ≡ length vs
+    → FocusIs T S (activation_of number thread count group cs vs) (length vs) (NodeRun 0 (length vs)) (TreeRun (place_of number thread count group cs (zipped q.params vs)) (BlockTask q.body))
+at_entry T S thread count group number cs vs c q ce h l = (
+  0,
+  refl,
+  (zipped q.params vs, refl, record { values = zipped_values q.params vs l; many = length_zipped q.params vs l }),
+  record {
+    rest = [];
+    nodes =
+        subst (λ (o : Option Proc). IsCode T.procs (draft_block (proc_outside o) (bound_names (zipped q.params vs)) q.body) (nodes_of (S.code number)) []) (sym h.proc_is)
+        (subst (λ (names : List Bytes). IsCode T.procs (draft_block q.outside names q.body) (nodes_of (S.code number)) []) (sym (zipped_names q.params vs l))
+        (subst (λ (o : Option Code). IsCode T.procs (draft_block q.outside q.params q.body) (nodes_of o) []) (sym ce) h.code_is.reads));
+  },
+)
 
 enter_alike : {R : Type 0} → (T : Table R) (S : Store R) (act : Activation R) (b : ℕ) (bound : List (Bound R)) → IsBound act b bound → (ns : List (NodeFrame R)) (fs : List (TreeFrame R)) → FramesAre T S act b ns fs → (thread count : ℕ) (group : List CodeNo) (number : CodeNo) (cs : PlainValues R) (vs : List (PlainValue R))
     → (c : Option Code) → S.code number ≡ c → IsCodeAt T.procs number c → Same T S (enter_code S thread count group number cs c act vs ns) (entered thread count group number cs (T.procs number) (place_at act bound) vs fs)
@@ -73,18 +76,7 @@ enter_alike {R} T S act b bound w ns fs fr thread count group number cs vs (Some
       by_arity true e =
           let l : length q.params ≡ length vs = same_length (length q.params) (length vs) e in
           alike T S Stepped (activation_of number thread count group cs vs) (length vs) (NodeCalled act ∷ ns) (NodeRun 0 (length vs)) (push (place_at act bound) PendingCalled fs) (TreeRun (place_of number thread count group cs (zipped q.params vs)) (BlockTask q.body))
-          (NodeCalled act, ns, refl, (act, refl), frames_up T S act b (length act.locals) ns fs (in_force act b bound w) fr) (
-            0,
-            refl,
-            (zipped q.params vs, refl, record { values = zipped_values q.params vs l; many = length_zipped q.params vs l }),
-            record {
-              rest = [];
-              nodes =
-                  subst (λ (o : Option Proc). IsCode T.procs (draft_block (proc_outside o) (bound_names (zipped q.params vs)) q.body) (nodes_of (S.code number)) []) (sym h.proc_is)
-                  (subst (λ (names : List Bytes). IsCode T.procs (draft_block q.outside names q.body) (nodes_of (S.code number)) []) (sym (zipped_names q.params vs l))
-                  (subst (λ (o : Option Code). IsCode T.procs (draft_block q.outside q.params q.body) (nodes_of o) []) (sym ce) h.code_is.reads));
-            },
-          )
+          (NodeCalled act, ns, refl, (act, refl), frames_up T S act b (length act.locals) ns fs (in_force act b bound w) fr) (at_entry T S thread count group number cs vs c q ce h l)
 
 pub call_alike : {R : Type 0} → (T : Table R) (S : Store R) → Agrees T S → (a : ℕ) (act : Activation R) (b : ℕ) (bound : List (Bound R)) → IsBound act b bound → (ns : List (NodeFrame R)) (fs : List (TreeFrame R)) → FramesAre T S act b ns fs → (v : PlainValue R) (vs : List (PlainValue R))
     → Same T S (call_node_plain S a v act vs ns) (call_plain T a v (place_at act bound) vs fs)

@@ -1,28 +1,38 @@
 -- What an act leaves at its form.
-use Rattle.std.specs.Prelude.{List, None, Option, Some, [], is_some, refl, suc, unwrap_or, ℕ, ◌++◌, ◌∷◌, ◌≡◌}
+use Rattle.std.specs.Prelude.{List, None, Option, Some, [], is_some, length, refl, slice_get, suc, unwrap_or, ℕ, ◌++◌, ◌∷◌, ◌≡◌}
 use Rattle.std.proofs.Common.{ap, inl, inr, subst, sym, ◌∙◌}
 use Rattle.obq_base.specs.Tree.{AnItem, NoItems}
+use Rattle.obq_base.specs.declared.code.Code.{Code}
+use Rattle.obq_base.specs.declared.code.CodeNo.{CodeNo}
+use Rattle.obq_model.specs.CodeLaws.{IsCodeAt}
 use Rattle.obq_model.specs.Draft.{count_binds, count_items, draft_binds, draft_items}
 use Rattle.obq_model.specs.Occurrences.{bind_names}
+use Rattle.obq_model.specs.Procedures.{Proc}
 use Rattle.obq_model.specs.Put.{enter}
-use Rattle.obq_model.specs.Step.{Frame, Operation, find, plug}
-use Rattle.obq_model.specs.Terms.{Const, Okay, Term}
+use Rattle.obq_model.specs.Resolved.{IsNumbered}
+use Rattle.obq_model.specs.Step.{Frame, Operation, body_with, find, plug}
+use Rattle.obq_model.specs.Terms.{Const, Object, Okay, Term}
 use Rattle.obq_model.proofs.Among.{true_false}
-use Rattle.obq_windows.specs.Acts.{AnswerForm, AnswerRaising, AnswerValue, AnswersRead, CompleteAnswer, PlainAnswer, answer_node, answer_tree, left_by, value_at_node, value_at_tree}
-use Rattle.obq_windows.specs.Agrees.{AfterIs, Agrees, Alike, FocusIs, FramesAre, Same, StandsAt}
-use Rattle.obq_windows.specs.Complete.{CompleteAfter, CompleteFocus, CompleteFrames, CompleteOperation, IsComplete}
+use Rattle.obq_model.proofs.Plug.{plug_append}
+use Rattle.obq_windows.specs.Acts.{AnswerCalled, AnswerForm, AnswerMethod, AnswerRaising, AnswerValue, AnswersRead, CompleteAnswer, HasParameters, PlainAnswer, Takes, answer_node, answer_tree, enter_node_code, enter_node_value, enter_tree, enter_tree_code, enter_tree_value, left_by, value_at_node, value_at_tree}
+use Rattle.obq_windows.specs.Agrees.{AfterIs, Agrees, Alike, FocusIs, FrameIs, FramesAre, Same, StandsAt, act_behind, height_behind}
+use Rattle.obq_windows.specs.Complete.{AllComplete, CompleteAfter, CompleteFocus, CompleteFrames, CompleteOperation, CompletePending, CompletePlace, IsComplete, Knows}
 use Rattle.obq_windows.specs.Moves.{begin_vars}
-use Rattle.obq_windows.specs.Places.{Place, bind_of, outside_at, with_bound}
-use Rattle.obq_windows.specs.Trees.{BlockTask, ExprTask, ItemsTask, PlainBroadcast, PlainGet, PlainInvoke, PlainItemOf, PlainJoin, PlainLeave, PlainNewArray, PlainNewCondition, PlainNewVariable, PlainOperation, PlainRead, PlainRedirect, PlainSetAlias, PlainSetItem, PlainSetValue, PlainSetVariable, PlainSignal, PlainSize, PlainWrite, Silent, TreeAct, TreeAfter, TreeFocus, TreeFrame, TreeHere, TreeMoved, TreeRaising, TreeRun, TreeUnder, TreeUnmet, TreeValue, frames_of, names_at, read_operation, scope_after, term_of, tree_moved, vars_at}
-use Rattle.obq_windows.specs.Values.{OkayValue, PlainValue, Table, read_value}
-use Rattle.obq_windows.specs.Windows.{Activation, NodeAct, NodeAfter, NodeFocus, NodeFrame, NodeHere, NodeMoved, Store, bind, vars_node}
+use Rattle.obq_windows.specs.Places.{Place, bind_of, outside_at, place_of, with_bound, zipped}
+use Rattle.obq_windows.specs.Trees.{BlockTask, ExprTask, ItemsTask, PendingCalled, PendingForm, PendingWithin, PlainBroadcast, PlainGet, PlainInvoke, PlainItemOf, PlainJoin, PlainLeave, PlainNewArray, PlainNewCondition, PlainNewVariable, PlainOperation, PlainRead, PlainRedirect, PlainSetAlias, PlainSetItem, PlainSetValue, PlainSetVariable, PlainSignal, PlainSize, PlainWrite, Silent, TreeAct, TreeAfter, TreeFocus, TreeFrame, TreeHere, TreeMoved, TreeRaising, TreeRun, TreeUnder, TreeUnmet, TreeValue, block_at, frames_of, names_at, pending_frames, read_operation, scope_after, term_of, tree_moved, vars_at}
+use Rattle.obq_windows.specs.Values.{ClosureValue, ExceptionValue, IntValue, LocationValue, NoValues, OkayValue, PlainValue, Table, TextValue, ThreadValue, TruthValue, closure_of, proc_named, read_all, read_value, read_values}
+use Rattle.obq_windows.specs.Windows.{Activation, NodeAct, NodeAfter, NodeCalled, NodeFocus, NodeFrame, NodeHere, NodeMoved, NodeRun, NodeWithin, Store, activation_of, bind, node_moved, vars_node}
 use Rattle.obq_windows.proofs.Acts.{Asked, act_asks}
+use Rattle.obq_windows.proofs.AlikeCalls.{at_entry}
 use Rattle.obq_windows.proofs.AlikeGives.{var_alike}
 use Rattle.obq_windows.proofs.Around.{are_frames, whole}
+use Rattle.obq_windows.proofs.Calls.{body_right}
+use Rattle.obq_windows.proofs.Frames.{frames_full}
 use Rattle.obq_windows.proofs.Gives.{var_given}
-use Rattle.obq_windows.proofs.Keeps.{CompleteMoved, place_more, vars_kept}
+use Rattle.obq_windows.proofs.Keeps.{CompleteMoved, place_more, vars_kept, zipped_complete}
 use Rattle.obq_windows.proofs.Running.{is_left_out}
 use Rattle.obq_windows.proofs.Starting.{vars_start}
+use Rattle.obq_windows.proofs.Whole.{made_of}
 
 -- the operation of a focus, and where its answer goes
 abbrev operation_at : {R : Type 0} → NodeFocus R → Option (PlainOperation R)
@@ -105,10 +115,70 @@ value_answered {R} T S g act b ns fs fr k (PlainBroadcast x) na after h l v c = 
 value_answered {R} T S g act b ns fs fr k (PlainJoin t) na after h l v c = record { same = record { tag = refl; makes = refl; height = b; frames = fr; focus = refl }; complete = record { frames = k; focus = c }; term = refl }
 value_answered T S g act b ns fs fr k (PlainNewVariable u) na after h l v c = variable_answered T S g act b ns fs fr k u na after h l v c
 
+-- what stands around a body that is entered
+record Caller {R : Type 0} (T : Table R) (S : Store R) (act : Activation R) (f : NodeFrame R) (pending : PendingForm R) : Type 0 where
+  is_frame : (z : Activation R) (b : ℕ) (p : Place R) → FrameIs T S z b f p pending
+  back : (z : Activation R) → act_behind z f ≡ act
+  low : (b : ℕ) → height_behind b f ≡ length act.locals
+  complete : CompletePending T pending
+  same_frames : (p q : Place R) → pending_frames T p pending ≡ pending_frames T q pending
+
+entered_answer : {R : Type 0} → (T : Table R) (S : Store R) → Agrees T S → (act : Activation R) (b : ℕ) (ns : List (NodeFrame R)) (fs : List (TreeFrame R)) → FramesAre T S act b ns fs → CompleteFrames T fs → (f : NodeFrame R) (pending : PendingForm R) → Caller T S act f pending → (around : Place R)
+    → (m : PlainValue R) (vs : List (PlainValue R)) → IsComplete T m → AllComplete T vs → Takes T m vs
+    → Answered T S (enter_node_value f m vs act ns) (enter_tree_value T pending m vs fs) (plug (frames_of T fs) (plug (pending_frames T around pending) (body_with (read_value T m) (read_all T vs))))
+entered_answer {R} T S g act b ns fs fr k f pending caller around (ClosureValue thread count group index cs) vs c d t = by_code (slice_get group index) c.0 t where
+  by_store : (number : CodeNo) (o : Option Proc) → T.procs number ≡ o → (z : Option Code) → S.code number ≡ z → IsCodeAt T.procs number z → Knows group cs o → HasParameters o (length vs)
+      → Answered T S (node_moved Silent (activation_of number thread count group cs vs) (f ∷ ns) (NodeRun 0 (length vs))) (enter_tree pending thread count group number cs o vs fs) (plug (frames_of T fs) (plug (pending_frames T around pending) (body_with (closure_of T (read_values T cs) o) (read_all T vs))))
+  by_store number None e z ce ic kn l = absurd kn
+  by_store number (Some q) e None ce ic kn l = absurd (true_false (ap is_some (sym e ∙ ic)))
+  by_store number (Some q) e (Some code) ce (q2, ic) kn l =
+      let same : q2 ≡ q = ap (λ (o : Option Proc). unwrap_or o q) (sym ic.proc_is ∙ e) in
+      record {
+        same = record {
+          tag = refl;
+          makes = refl;
+          height = length vs;
+          frames = (
+            f,
+            ns,
+            refl,
+            caller.is_frame _ _ _,
+            subst (λ (z : Activation R). FramesAre T S z (height_behind (length vs) f) ns fs) (sym (caller.back _)) (subst (λ (n : ℕ). FramesAre T S act n ns fs) (sym (caller.low _)) (frames_full T S act b ns fs fr)),
+          );
+          focus = at_entry T S thread count group number cs vs code q ce (subst (λ (z : Proc). IsNumbered T.procs number code z) same ic) l;
+        };
+        complete = record {
+          frames = (place_complete number q e kn, caller.complete, k);
+          focus = place_complete number q e kn;
+        };
+        term =
+            plug_append (frames_of T fs) (pending_frames T (place_of number thread count group cs (zipped q.params vs)) pending) _
+            ∙ ap (λ (gs : List (Frame R)). plug (frames_of T fs) (plug gs (block_at T (place_of number thread count group cs (zipped q.params vs)) q.body))) (caller.same_frames (place_of number thread count group cs (zipped q.params vs)) around)
+            ∙ ap (λ (u : Term R). plug (frames_of T fs) (plug (pending_frames T around pending) u)) (sym (body_right T thread count group number cs q vs (made_of T S g) e l q.group refl));
+      } where
+        place_complete : (number : CodeNo) (q : Proc) → T.procs number ≡ Some q → Knows group cs (Some q) → CompletePlace T (place_of number thread count group cs (zipped q.params vs))
+        place_complete number q e kn = record { known = subst (λ (o : Option Proc). Knows group cs o) (sym e) kn; captured = c.1; bound = zipped_complete T q.params vs d }
+
+  by_code : (o : Option CodeNo) → Knows group cs (proc_named T o) → HasParameters (proc_named T o) (length vs)
+      → Answered T S (enter_node_code f thread count group o cs vs act ns) (enter_tree_code T pending thread count group o cs vs fs) (plug (frames_of T fs) (plug (pending_frames T around pending) (body_with (closure_of T (read_values T cs) (proc_named T o)) (read_all T vs))))
+  by_code None kn l = absurd kn
+  by_code (Some number) kn l = by_store number (T.procs number) refl (S.code number) refl (g.code number) kn l
+entered_answer T S g act b ns fs fr k f pending caller around (IntValue z) vs c d t = absurd t
+entered_answer T S g act b ns fs fr k f pending caller around (TruthValue z) vs c d t = absurd t
+entered_answer T S g act b ns fs fr k f pending caller around OkayValue vs c d t = absurd t
+entered_answer T S g act b ns fs fr k f pending caller around (TextValue z) vs c d t = absurd t
+entered_answer T S g act b ns fs fr k f pending caller around (ExceptionValue z) vs c d t = absurd t
+entered_answer T S g act b ns fs fr k f pending caller around (ThreadValue z) vs c d t = absurd t
+entered_answer T S g act b ns fs fr k f pending caller around (LocationValue z r) vs c d t = absurd t
+
 answered : {R : Type 0} → (T : Table R) (S : Store R) → Agrees T S → (act : Activation R) (b : ℕ) (ns : List (NodeFrame R)) (fs : List (TreeFrame R)) → FramesAre T S act b ns fs → CompleteFrames T fs → (op : PlainOperation R) (na : NodeAfter) (after : TreeAfter R) → AfterIs T S act b na after → CompleteAfter T after
-    → (answer : PlainAnswer R) → CompleteAnswer T answer → Answered T S (answer_node S op na answer act ns) (answer_tree op after answer fs) (plug (frames_of T fs) (left_by T (read_operation T op (scope_after T after)) answer))
+    → (answer : PlainAnswer R) → CompleteAnswer T answer → Answered T S (answer_node S op na answer act ns) (answer_tree T op after answer fs) (plug (frames_of T fs) (left_by T (read_operation T op (scope_after T after)) answer))
 answered T S g act b ns fs fr k op na after h l (AnswerRaising r) c = record { same = record { tag = refl; makes = refl; height = b; frames = fr; focus = refl }; complete = record { frames = k; focus = tt }; term = refl }
 answered T S g act b ns fs fr k op na after h l (AnswerForm p) c = record { same = record { tag = refl; makes = refl; height = b; frames = fr; focus = (NodeHere, refl, refl) }; complete = record { frames = k; focus = (c, tt) }; term = refl }
+answered {R} T S g act b ns fs fr k op na after h l (AnswerMethod o m f vs) c =
+    entered_answer T S g act b ns fs fr k (NodeWithin act o m) (PendingWithin o m) (record { is_frame = λ z n p. (act, refl); back = λ z. refl; low = λ n. refl; complete = tt; same_frames = λ p q. refl }) (place_of (record { source = 0; n = 0 }) 0 0 [] NoValues []) f (LocationValue Object o ∷ vs) c.0 (tt, c.1) c.2
+answered {R} T S g act b ns fs fr k op na after h l (AnswerCalled f vs) c =
+    entered_answer T S g act b ns fs fr k (NodeCalled act) PendingCalled (record { is_frame = λ z n p. (act, refl); back = λ z. refl; low = λ n. refl; complete = tt; same_frames = λ p q. refl }) (place_of (record { source = 0; n = 0 }) 0 0 [] NoValues []) f vs c.0 c.1 c.2
 answered T S g act b ns fs fr k op na after h l (AnswerValue v) c = value_answered T S g act b ns fs fr k op na after h l v c
 
 pub answers_read : {R : Type 0} → AnswersRead R
@@ -116,11 +186,11 @@ answers_read {R} eq T S g a s act ns op na t r o around e answer c =
     let at : AtAct T S act r.height op na r.focus = at_act T S act r.height op na r.focus r.is_focus in
     let l : CompleteOperation T op × CompleteAfter T at.after = subst (λ (z : TreeFocus R). CompleteFocus T z) at.is_act r.complete.focus in
     let asked : Asked T r.frames op at.after o around = act_asks eq T a s r.frames op at.after o around (sym (ap (find eq a s) (r.term ∙ ap (term_of T r.frames) at.is_act)) ∙ e) in
-    let m : Answered T S (answer_node S op na answer act ns) (answer_tree op at.after answer r.frames) (plug (frames_of T r.frames) (left_by T (read_operation T op (scope_after T at.after)) answer)) =
+    let m : Answered T S (answer_node S op na answer act ns) (answer_tree T op at.after answer r.frames) (plug (frames_of T r.frames) (left_by T (read_operation T op (scope_after T at.after)) answer)) =
     answered T S g act r.height ns r.frames r.are_frames r.complete.frames op na at.after at.is_after l.1 answer c in
     record {
-      frames = (answer_tree op at.after answer r.frames).frames;
-      focus = (answer_tree op at.after answer r.frames).focus;
+      frames = (answer_tree T op at.after answer r.frames).frames;
+      focus = (answer_tree T op at.after answer r.frames).focus;
       height = m.same.height;
       are_frames = m.same.frames;
       is_focus = m.same.focus;

@@ -199,3 +199,78 @@ bound_all {R} act b m bound mv vs w e l = record {
 
   no_more : {x y : ℕ} → x ≡ y → x ≤ y
   no_more e = omega (arith, e)
+
+-- ---- behind all values of the activation
+
+-- the binders in force have their values
+take_length : {A : Type 0} → (k : ℕ) (l : List A) → length (take k l) ≡ k → k ≤ length l
+take_length zero l e = omega arith
+take_length (suc k) [] e = absurd (none k e) where
+  none : (k : ℕ) → 0 ≡ suc k → ⊥
+  none k e = omega (arith, e)
+take_length (suc k) (x ∷ l) e = up_one k (length l) (take_length k l (omega (arith, e))) where
+  up_one : (k m : ℕ) → k ≤ m → suc k ≤ suc m
+  up_one k m h = omega (arith, h)
+
+pub in_force : {R : Type 0} → (act : Activation R) (b : ℕ) (bound : List (Bound R)) → IsBound act b bound → b ≤ length act.locals
+in_force act b bound w = take_length b act.locals (ap length w.values ∙ length_values bound ∙ sym w.many)
+
+frame_full : {R : Type 0} → (T : Table R) (S : Store R) (act : Activation R) (b : ℕ) (f : NodeFrame R) (p : Place R) (pending : PendingForm R) → FrameIs T S act b f p pending → FrameIs T S act (length act.locals) f p pending
+frame_full T S act b f p (PendingThen NoItems) h = absurd h
+frame_full T S act b f p (PendingThen (AnItem i is)) h = (h.0, h.1, h.2, in_force act _ h.4.0 h.4.2, h.4, h.5)
+frame_full T S act b f p (PendingLet x bs is) h = (h.0, h.1, h.2, h.3, in_force act _ h.5.0 h.5.2, h.5, h.6, h.7)
+frame_full T S act b f p (PendingVar x bs is) h = (h.0, h.1, h.2, h.3, in_force act _ h.5.0 h.5.2, h.5, h.6, h.7)
+frame_full T S act b f p (PendingIf block arms last) h = (h.0, h.1, h.2, in_force act _ h.4.0 h.4.2, h.4, h.5)
+frame_full T S act b f p (PendingChain op e links) h = (h.0, h.1, h.2, h.3, h.4, in_force act _ h.6.0 h.6.2, h.6, h.7, h.8, h.9, h.10)
+frame_full T S act b f p (PendingRight v op) h = h
+frame_full T S act b f p (PendingHead x ss) h = (h.0, h.1, h.2, in_force act _ h.4.0 h.4.2, h.4, h.5)
+frame_full T S act b f p (PendingArguments callee done es) h = (h.0, h.1, h.2, in_force act _ h.4.0 h.4.2, h.4, h.5)
+frame_full T S act b f p PendingRaise h = h
+frame_full T S act b f p PendingCalled h = h
+frame_full T S act b f p (PendingWithin o m) h = h
+frame_full T S act b f p (PendingTry arms last) h = (h.0, h.1, h.2, in_force act _ h.4.0 h.4.2, h.4, h.5)
+frame_full T S act b f p (PendingGuard e block arms last) h = (h.0, h.1, h.2, in_force act _ h.4.0 h.4.2, h.4, h.5)
+frame_full T S act b f p (PendingLast block) h = (h.0, h.1, h.2, in_force act _ h.4.0 h.4.2, h.4, h.5)
+frame_full T S act b f p (PendingField x body) h = (h.0, h.1, h.2, in_force act _ h.4.0 h.4.2, h.4, h.5)
+frame_full T S act b f p (PendingKept k) h = h
+frame_full T S act b f p (PendingAssign x) h = (h.0, h.1, in_force act _ h.3.0 h.3.2, h.3)
+frame_full T S act b f p (PendingLoop block) h = (h.0, h.1, h.2, in_force act _ h.4.0 h.4.2, h.4, h.5)
+frame_full T S act b f p (PendingFirst x e block) h = (h.0, h.1, h.2, in_force act _ h.4.0 h.4.2, h.4, h.5)
+frame_full T S act b f p (PendingTo first x block) h = (h.0, h.1, h.2, in_force act _ h.4.0 h.4.2, h.4, h.5)
+frame_full T S act b f p (PendingCount i n x block) h = (h.0, h.1, h.2, in_force act _ h.4.0 h.4.2, h.4, h.5)
+
+heights_in : {R : Type 0} → (act : Activation R) (b c : ℕ) (f : NodeFrame R) → (height_behind b f ≡ height_behind c f) ⊎ ((height_behind b f ≡ b) × (c ≡ height_behind c f) × (act_behind act f ≡ act))
+heights_in act b c (NodeThen at left h) = inl refl
+heights_in act b c (NodeLet child left at items h) = inl refl
+heights_in act b c (NodeVar child left at items h) = inl refl
+heights_in act b c (NodeIf child arms last h) = inl refl
+heights_in act b c (NodeChain chain index child h) = inl refl
+heights_in act b c (NodeRight v op) = inr (refl, refl, refl)
+heights_in act b c (NodeHead at left h) = inl refl
+heights_in act b c (NodeArguments callee done child left h) = inl refl
+heights_in act b c NodeRaise = inr (refl, refl, refl)
+heights_in act b c (NodeCalled caller) = inl refl
+heights_in act b c (NodeWithin caller o m) = inl refl
+heights_in act b c (NodeTry child arms last h) = inl refl
+heights_in act b c (NodeGuard e child arms last h) = inl refl
+heights_in act b c (NodeLast child h) = inl refl
+heights_in act b c (NodeKept k) = inr (refl, refl, refl)
+heights_in act b c (NodeLoop child h) = inl refl
+heights_in act b c (NodeAssign slot h) = inl refl
+heights_in act b c (NodeField x child h) = inl refl
+heights_in act b c (NodeFirst child h) = inl refl
+heights_in act b c (NodeTo first child h) = inl refl
+heights_in act b c (NodeCount i n child h) = inl refl
+
+pub frames_full : {R : Type 0} → (T : Table R) (S : Store R) (act : Activation R) (b : ℕ) (ns : List (NodeFrame R)) (fs : List (TreeFrame R)) → FramesAre T S act b ns fs → FramesAre T S act (length act.locals) ns fs
+frames_full T S act b ns [] h = h
+frames_full {R} T S act b ns (t ∷ fs) h = (
+  h.0,
+  h.1,
+  h.2,
+  frame_full T S act b h.0 t.place t.pending h.3,
+  elim (heights_in act b (length act.locals) h.0) [
+    | inl e ↦ subst (λ (n : ℕ). FramesAre T S (act_behind act h.0) n h.1 fs) e h.4
+    | inr e ↦ subst (λ (n : ℕ). FramesAre T S (act_behind act h.0) n h.1 fs) e.1 (subst (λ (z : Activation R). FramesAre T S z (length act.locals) h.1 fs) (sym e.2) (frames_full T S act b h.1 fs (subst (λ (z : Activation R). FramesAre T S z b h.1 fs) e.2 (subst (λ (n : ℕ). FramesAre T S (act_behind act h.0) n h.1 fs) e.0 h.4))))
+  ],
+)
