@@ -1,6 +1,6 @@
 -- Calls: nodes and trees do the same.
 use Rattle.std.specs.Prelude.{Bool, List, None, Option, Some, [], codes, false, if◌then◌else◌, length, refl, slice_get, suc, take, true, ℕ, ◌==◌, ◌∷◌, ◌≡◌}
-use Rattle.std.proofs.Common.{ap, arith, inl, subst, sym}
+use Rattle.std.proofs.Common.{ap, arith, subst, sym, ◌∙◌}
 use Rattle.obq_base.specs.Tree.{AnExpr, ExprTrees, NoExprs}
 use Rattle.obq_base.specs.declared.code.Code.{Code}
 use Rattle.obq_base.specs.declared.code.CodeNo.{CodeNo}
@@ -13,15 +13,15 @@ use Rattle.obq_model.specs.Resolved.{IsCode, IsNumbered}
 use Rattle.obq_model.specs.Step.{is_call_limit}
 use Rattle.obq_model.specs.Terms.{Array, Bytes, Condition, Engine, Object, Variable, Writer}
 use Rattle.obq_model.proofs.Drafted.{drafted_expr}
-use Rattle.obq_windows.specs.Agrees.{Agrees, FocusIs, FramesAre, IsBound, Same, StandsAt, place_at}
-use Rattle.obq_windows.specs.Moves.{begin_args, call_code, call_plain, entered, finish_args, tree_result}
+use Rattle.obq_windows.specs.Agrees.{AfterIs, Agrees, FocusIs, FramesAre, IsBound, Same, StandsAt, place_at}
+use Rattle.obq_windows.specs.Moves.{act_ends, begin_args, call_code, call_plain, entered, finish_args, tree_act, tree_result}
 use Rattle.obq_windows.specs.Places.{Bound, bound_names, bound_values, outside_at, place_of, proc_outside, zipped}
-use Rattle.obq_windows.specs.Results.{Beyond, Does, Gives, PlainResult, Raises, alias_set, applied, array_made, indexed, invoked, item_set, redirected, value_set}
-use Rattle.obq_windows.specs.Trees.{Asks, BlockTask, Callee, ExprTask, PendingArguments, PendingCalled, Silent, Stepped, ToArray, ToBuiltin, ToCall, ToIndex, ToInvoke, ToRedirect, ToSetAlias, ToSetIndex, ToSetValue, TreeAct, TreeFrame, TreeHere, TreeRun, TreeValue, push, tree_moved, tree_raises}
-use Rattle.obq_windows.specs.Values.{ClosureValue, ExceptionValue, IntValue, LocationValue, OkayValue, PlainValue, PlainValues, Table, TextValue, ThreadValue, TruthValue}
-use Rattle.obq_windows.specs.Windows.{Activation, NodeAct, NodeArguments, NodeCalled, NodeFrame, NodeHere, NodeRun, NodeValue, Store, activation_of, args_node, call_node_code, call_node_plain, enter_code, finish_node, node_moved, node_raises, node_result}
+use Rattle.obq_windows.specs.Results.{Does, Gives, PlainResult, Raises, alias_set, applied, array_made, indexed, invoked, item_set, redirected, value_set}
+use Rattle.obq_windows.specs.Trees.{Asks, BlockTask, Callee, ExprTask, Kept, KeptRaising, KeptValue, PendingArguments, PendingCalled, PlainOperation, PlainRunEngine, Silent, Stepped, ToArray, ToBuiltin, ToCall, ToIndex, ToInvoke, ToRedirect, ToSetAlias, ToSetIndex, ToSetValue, TreeAct, TreeAfter, TreeFrame, TreeHere, TreeRaising, TreeRun, TreeValue, push, tree_moved, tree_raises}
+use Rattle.obq_windows.specs.Values.{ClosureValue, ExceptionValue, IntValue, LocationValue, OkayValue, PlainValue, PlainValues, Table, TextValue, ThreadValue, TruthValue, count_in, proc_named, tree_params}
+use Rattle.obq_windows.specs.Windows.{Activation, NodeAct, NodeAfter, NodeArguments, NodeCalled, NodeFrame, NodeHere, NodeRaising, NodeRun, NodeValue, Store, act_node, activation_of, args_node, call_node_code, call_node_plain, code_params, count_in_code, enter_code, finish_node, node_moved, node_params, node_raises, node_result}
 use Rattle.obq_windows.proofs.Calls.{same_length}
-use Rattle.obq_windows.proofs.Envs.{zipped_names}
+use Rattle.obq_windows.proofs.Envs.{fun_eq, zipped_names}
 use Rattle.obq_windows.proofs.Frames.{frames_up, in_force}
 use Rattle.obq_windows.proofs.Slots.{alike, first_of, not_above, second_of}
 
@@ -78,6 +78,37 @@ enter_alike {R} T S act b bound w ns fs fr thread count group number cs vs (Some
           alike T S Stepped (activation_of number thread count group cs vs) (length vs) (NodeCalled act ∷ ns) (NodeRun 0 (length vs)) (push (place_at act bound) PendingCalled fs) (TreeRun (place_of number thread count group cs (zipped q.params vs)) (BlockTask q.body))
           (NodeCalled act, ns, refl, (act, refl), frames_up T S act b (length act.locals) ns fs (in_force act b bound w) fr) (at_entry T S thread count group number cs vs c q ce h l)
 
+pub act_alike : {R : Type 0} → (T : Table R) (S : Store R) (act : Activation R) (b : ℕ) (ns : List (NodeFrame R)) (fs : List (TreeFrame R)) → FramesAre T S act b ns fs → (na : NodeAfter) (after : TreeAfter R) → AfterIs T S act b na after → (op : PlainOperation R) (o : Option (Kept R)) → Same T S (act_node o op na act ns) (tree_act o op after fs)
+act_alike T S act b ns fs fr na after h op None = alike T S (Asks op) act b ns (NodeAct op na) fs (TreeAct op after) fr (na, refl, h)
+act_alike T S act b ns fs fr na after h op (Some (KeptValue v)) = alike T S Stepped act b ns (NodeValue v) fs (TreeValue v) fr refl
+act_alike T S act b ns fs fr na after h op (Some (KeptRaising r)) = alike T S Stepped act b ns (NodeRaising r) fs (TreeRaising r) fr refl
+
+either_raises : {R : Type 0} → (T : Table R) (S : Store R) (act : Activation R) (b : ℕ) (ns : List (NodeFrame R)) (fs : List (TreeFrame R)) → FramesAre T S act b ns fs → (c : Bool) (e f : Bytes)
+    → Same T S (if c then node_moved Stepped act ns (node_raises e) else node_moved Stepped act ns (node_raises f)) (if c then tree_moved Stepped fs (tree_raises e) else tree_moved Stepped fs (tree_raises f))
+either_raises T S act b ns fs fr true e f = alike T S Stepped act b ns (node_raises e) fs (tree_raises e) fr refl
+either_raises T S act b ns fs fr false e f = alike T S Stepped act b ns (node_raises f) fs (tree_raises f) fr refl
+
+-- the store and the table tell the same parameters
+pub params_same : {R : Type 0} → (T : Table R) (S : Store R) → Agrees T S → node_params S ≡ tree_params T
+params_same {R} T S g = fun_eq (node_params S) (tree_params T) at where
+  by_store : (number : CodeNo) (c : Option Code) → IsCodeAt T.procs number c → count_in_code c ≡ count_in (T.procs number)
+  by_store number None h = ap count_in (sym h)
+  by_store number (Some c) (q, h) = ap Some h.code_is.params_are ∙ ap count_in (sym h.proc_is)
+
+  by_code : (o : Option CodeNo) → code_params S o ≡ count_in (proc_named T o)
+  by_code None = refl
+  by_code (Some number) = by_store number (S.code number) (g.code number)
+
+  at : (v : PlainValue R) → node_params S v ≡ tree_params T v
+  at (IntValue z) = refl
+  at (TruthValue z) = refl
+  at OkayValue = refl
+  at (TextValue z) = refl
+  at (ExceptionValue z) = refl
+  at (ThreadValue z) = refl
+  at (LocationValue k z) = refl
+  at (ClosureValue t c group index vs) = by_code (slice_get group index)
+
 pub call_alike : {R : Type 0} → (T : Table R) (S : Store R) → Agrees T S → (a : ℕ) (act : Activation R) (b : ℕ) (bound : List (Bound R)) → IsBound act b bound → (ns : List (NodeFrame R)) (fs : List (TreeFrame R)) → FramesAre T S act b ns fs → (v : PlainValue R) (vs : List (PlainValue R))
     → Same T S (call_node_plain S a v act vs ns) (call_plain T a v (place_at act bound) vs fs)
 call_alike {R} T S g a act b bound w ns fs fr (ClosureValue thread count group index cs) vs = by_limit (is_call_limit a) where
@@ -89,7 +120,11 @@ call_alike {R} T S g a act b bound w ns fs fr (ClosureValue thread count group i
       (if d then tree_moved Stepped fs (tree_raises (codes "call_limit")) else call_code T thread count group cs (slice_get group index) (place_at act bound) vs fs)
   by_limit true = alike T S Stepped act b ns (node_raises (codes "call_limit")) fs (tree_raises (codes "call_limit")) fr refl
   by_limit false = by_code (slice_get group index)
-call_alike T S g a act b bound w ns fs fr (LocationValue Engine e) vs = inl (refl, refl)
+call_alike {R} T S g a act b bound w ns fs fr (LocationValue Engine e) [] = either_raises T S act b ns fs fr (is_call_limit a) (codes "call_limit") (codes "arity")
+call_alike {R} T S g a act b bound w ns fs fr (LocationValue Engine e) (f ∷ []) =
+    subst (λ (count : PlainValue R → Option ℕ). Same T S (act_node (act_ends count a (PlainRunEngine e f)) (PlainRunEngine e f) NodeHere act ns) (tree_act (act_ends (tree_params T) a (PlainRunEngine e f)) (PlainRunEngine e f) TreeHere fs)) (sym (params_same T S g))
+    (act_alike T S act b ns fs fr NodeHere TreeHere refl (PlainRunEngine e f) (act_ends (tree_params T) a (PlainRunEngine e f)))
+call_alike {R} T S g a act b bound w ns fs fr (LocationValue Engine e) (f ∷ z ∷ vs) = either_raises T S act b ns fs fr (is_call_limit a) (codes "call_limit") (codes "arity")
 call_alike T S g a act b bound w ns fs fr (LocationValue Object r) vs = alike T S Stepped act b ns (node_raises (codes "type")) fs (tree_raises (codes "type")) fr refl
 call_alike T S g a act b bound w ns fs fr (LocationValue Array r) vs = alike T S Stepped act b ns (node_raises (codes "type")) fs (tree_raises (codes "type")) fr refl
 call_alike T S g a act b bound w ns fs fr (LocationValue Variable r) vs = alike T S Stepped act b ns (node_raises (codes "type")) fs (tree_raises (codes "type")) fr refl
@@ -106,15 +141,16 @@ pub result_alike : {R : Type 0} → (T : Table R) (S : Store R) (act : Activatio
 result_alike T S act b ns fs fr (Gives v) = alike T S Stepped act b ns (NodeValue v) fs (TreeValue v) fr refl
 result_alike T S act b ns fs fr (Raises e) = alike T S Stepped act b ns (node_raises e) fs (tree_raises e) fr refl
 result_alike T S act b ns fs fr (Does op) = alike T S (Asks op) act b ns (NodeAct op NodeHere) fs (TreeAct op TreeHere) fr (NodeHere, refl, refl)
-result_alike T S act b ns fs fr Beyond = inl (refl, refl)
 
 finish_alike : {R : Type 0} → (T : Table R) (S : Store R) → Agrees T S → (a : ℕ) (act : Activation R) (b : ℕ) (bound : List (Bound R)) → IsBound act b bound → (ns : List (NodeFrame R)) (fs : List (TreeFrame R)) → FramesAre T S act b ns fs → (callee : Callee R) (vs : List (PlainValue R))
     → Same T S (finish_node S a callee act vs ns) (finish_args T a callee (place_at act bound) vs fs)
 finish_alike T S g a act b bound w ns fs fr (ToCall f) vs = call_alike T S g a act b bound w ns fs fr f vs
-finish_alike {R} T S g a act b bound w ns fs fr (ToBuiltin r) vs = by_arity (length vs == arity_of_builtin (builtin_at r)) where
-  by_arity : (d : Bool) → Same T S (if d then node_result (applied (builtin_at r) vs) act ns else node_moved Stepped act ns (node_raises (codes "arity"))) (if d then tree_result (applied (builtin_at r) vs) fs else tree_moved Stepped fs (tree_raises (codes "arity")))
-  by_arity true = result_alike T S act b ns fs fr (applied (builtin_at r) vs)
-  by_arity false = alike T S Stepped act b ns (node_raises (codes "arity")) fs (tree_raises (codes "arity")) fr refl
+finish_alike {R} T S g a act b bound w ns fs fr (ToBuiltin r) vs =
+    subst (λ (count : PlainValue R → Option ℕ). Same T S (if length vs == arity_of_builtin (builtin_at r) then node_result (applied count (builtin_at r) vs) act ns else node_moved Stepped act ns (node_raises (codes "arity"))) (finish_args T a (ToBuiltin r) (place_at act bound) vs fs)) (sym (params_same T S g))
+    (by_arity (length vs == arity_of_builtin (builtin_at r))) where
+      by_arity : (d : Bool) → Same T S (if d then node_result (applied (tree_params T) (builtin_at r) vs) act ns else node_moved Stepped act ns (node_raises (codes "arity"))) (if d then tree_result (applied (tree_params T) (builtin_at r) vs) fs else tree_moved Stepped fs (tree_raises (codes "arity")))
+      by_arity true = result_alike T S act b ns fs fr (applied (tree_params T) (builtin_at r) vs)
+      by_arity false = alike T S Stepped act b ns (node_raises (codes "arity")) fs (tree_raises (codes "arity")) fr refl
 finish_alike T S g a act b bound w ns fs fr ToArray vs = result_alike T S act b ns fs fr (array_made vs)
 finish_alike T S g a act b bound w ns fs fr ToIndex vs = result_alike T S act b ns fs fr (indexed vs)
 finish_alike T S g a act b bound w ns fs fr ToSetIndex vs = result_alike T S act b ns fs fr (item_set vs)

@@ -12,12 +12,12 @@ use Rattle.obq_model.specs.Scopes.{slots_of}
 use Rattle.obq_model.specs.Terms.{Apply, Array, Bytes, Condition, Engine, Held, Index, Inner, Invoke, Mode, Object, Plain, Select, Variable, Writer}
 use Rattle.obq_model.proofs.Among.{true_false}
 use Rattle.obq_model.proofs.Drafted.{drafted_block, drafted_expr, drafted_suffix}
-use Rattle.obq_windows.specs.Agrees.{AfterIs, Agrees, FramesAre, IsBound, Same, StandsAt, place_at}
-use Rattle.obq_windows.specs.Moves.{begin_args, begin_arms, begin_binds, begin_count, begin_vars, count_at, give_and, give_field, give_guard, give_if, give_left, give_or, give_raise, give_suffix, give_to, leave_tree, next_count, tree_act, with_links, with_suffixes}
+use Rattle.obq_windows.specs.Agrees.{Agrees, FramesAre, IsBound, Same, StandsAt, place_at}
+use Rattle.obq_windows.specs.Moves.{begin_args, begin_arms, begin_binds, begin_count, begin_vars, count_at, give_and, give_field, give_guard, give_if, give_left, give_or, give_raise, give_suffix, give_to, leave_tree, next_count, with_links, with_suffixes}
 use Rattle.obq_windows.specs.Places.{Bound, bind_of, bound_names, outside_at, with_bound}
-use Rattle.obq_windows.specs.Trees.{Asks, BlockTask, ExprTask, Kept, KeptRaising, KeptValue, PendingChain, PendingCount, PendingGuard, PendingRight, PlainGet, PlainLeave, PlainOperation, Silent, Stepped, ToCall, ToIndex, ToInvoke, ToSetAlias, ToSetValue, TreeAct, TreeAfter, TreeFrame, TreeHere, TreeRaising, TreeRun, TreeUnmet, TreeValue, push, tree_moved, tree_raises}
+use Rattle.obq_windows.specs.Trees.{Asks, BlockTask, ExprTask, Kept, KeptRaising, KeptValue, PendingChain, PendingCount, PendingGuard, PendingRight, PlainGet, PlainLeave, Silent, Stepped, ToCall, ToIndex, ToInvoke, ToSetAlias, ToSetValue, TreeAct, TreeFrame, TreeHere, TreeRaising, TreeRun, TreeUnmet, TreeValue, push, tree_moved, tree_raises}
 use Rattle.obq_windows.specs.Values.{ClosureValue, ExceptionValue, IntValue, LocationValue, OkayValue, PlainValue, Table, TextValue, ThreadValue, TruthValue}
-use Rattle.obq_windows.specs.Windows.{Activation, NodeAct, NodeAfter, NodeChain, NodeCount, NodeFrame, NodeGuard, NodeHere, NodeMoved, NodeRaising, NodeRight, NodeRun, NodeUnmet, NodeValue, Store, act_node, args_node, bind, binds_node, count_node, count_node_at, give_node_and, give_node_field, give_node_guard, give_node_if, give_node_left, give_node_or, give_node_raise, give_node_suffix, give_node_to, guards_node, leave_node, next_count_node, node_at, node_moved, node_raises, operator_in, vars_node, with_operator, with_suffix}
+use Rattle.obq_windows.specs.Windows.{Activation, NodeAct, NodeChain, NodeCount, NodeFrame, NodeGuard, NodeHere, NodeMoved, NodeRaising, NodeRight, NodeRun, NodeUnmet, NodeValue, Store, args_node, bind, binds_node, count_node, count_node_at, give_node_and, give_node_field, give_node_guard, give_node_if, give_node_left, give_node_or, give_node_raise, give_node_suffix, give_node_to, guards_node, leave_node, next_count_node, node_at, node_moved, node_raises, operator_in, vars_node, with_operator, with_suffix}
 use Rattle.obq_windows.proofs.Alike.{arms_alike, at_node, expr_head, plain_node, suffix_frames}
 use Rattle.obq_windows.proofs.AlikeCalls.{alone, args_alike}
 use Rattle.obq_windows.proofs.AlikeItems.{binds_alike, respelled, vars_alike}
@@ -173,11 +173,6 @@ select_alike T S a act b bound ns2 fs ss fr at x place (LocationValue Writer z) 
 select_alike T S a act b bound ns2 fs ss fr at x place (LocationValue Condition z) = alike T S Stepped act b ns2 (node_raises (codes "type")) (with_suffixes (place_at act bound) ss fs) (tree_raises (codes "type")) fr refl
 select_alike T S a act b bound ns2 fs ss fr at x place (LocationValue Engine z) = alike T S Stepped act b ns2 (node_raises (codes "type")) (with_suffixes (place_at act bound) ss fs) (tree_raises (codes "type")) fr refl
 select_alike T S a act b bound ns2 fs ss fr at x place (LocationValue Object z) = alike T S (Asks (PlainGet z x)) act b ns2 (NodeAct (PlainGet z x) NodeHere) (with_suffixes (place_at act bound) ss fs) (TreeAct (PlainGet z x) TreeHere) fr (NodeHere, refl, refl)
-
-pub act_alike : {R : Type 0} → (T : Table R) (S : Store R) (act : Activation R) (b : ℕ) (ns : List (NodeFrame R)) (fs : List (TreeFrame R)) → FramesAre T S act b ns fs → (na : NodeAfter) (after : TreeAfter R) → AfterIs T S act b na after → (op : PlainOperation R) (o : Option (Kept R)) → Same T S (act_node o op na act ns) (tree_act o op after fs)
-act_alike T S act b ns fs fr na after h op None = alike T S (Asks op) act b ns (NodeAct op na) fs (TreeAct op after) fr (na, refl, h)
-act_alike T S act b ns fs fr na after h op (Some (KeptValue v)) = alike T S Stepped act b ns (NodeValue v) fs (TreeValue v) fr refl
-act_alike T S act b ns fs fr na after h op (Some (KeptRaising r)) = alike T S Stepped act b ns (NodeRaising r) fs (TreeRaising r) fr refl
 
 pub head_given : {R : Type 0} → (T : Table R) (S : Store R) → Agrees T S → (a : ℕ) (act : Activation R) (b : ℕ) (bound : List (Bound R)) → IsBound act b bound → (ns : List (NodeFrame R)) (fs : List (TreeFrame R)) → FramesAre T S act b ns fs → (at : ℕ) (x : SuffixTree) (ss : SuffixTrees)
     → StandsAt T S act.code (Both (draft_suffix (outside_at T (place_at act bound)) (bound_names bound) None x) (draft_suffixes (outside_at T (place_at act bound)) (bound_names bound) None ss)) at → (v : PlainValue R)

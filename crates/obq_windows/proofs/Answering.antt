@@ -19,7 +19,7 @@ use Rattle.obq_windows.specs.Agrees.{AfterIs, Agrees, Alike, FocusIs, FrameIs, F
 use Rattle.obq_windows.specs.Complete.{AllComplete, CompleteAfter, CompleteFocus, CompleteFrames, CompleteOperation, CompletePending, CompletePlace, IsComplete, Knows}
 use Rattle.obq_windows.specs.Moves.{begin_vars}
 use Rattle.obq_windows.specs.Places.{Place, bind_of, outside_at, place_of, with_bound, zipped}
-use Rattle.obq_windows.specs.Trees.{BlockTask, ExprTask, ItemsTask, PendingCalled, PendingForm, PendingWithin, PlainBroadcast, PlainGet, PlainInvoke, PlainItemOf, PlainJoin, PlainLeave, PlainNewArray, PlainNewCondition, PlainNewVariable, PlainOperation, PlainRead, PlainRedirect, PlainSetAlias, PlainSetItem, PlainSetValue, PlainSetVariable, PlainSignal, PlainSize, PlainWrite, Silent, TreeAct, TreeAfter, TreeFocus, TreeFrame, TreeHere, TreeMoved, TreeRaising, TreeRun, TreeUnder, TreeUnmet, TreeValue, block_at, frames_of, names_at, pending_frames, read_operation, scope_after, term_of, tree_moved, vars_at}
+use Rattle.obq_windows.specs.Trees.{BlockTask, ExprTask, ItemsTask, PendingCalled, PendingForm, PendingWithin, PlainBroadcast, PlainExport, PlainForkOff, PlainGet, PlainImport, PlainInvoke, PlainItemOf, PlainJoin, PlainLeave, PlainNewArray, PlainNewCondition, PlainNewEngine, PlainNewVariable, PlainOperation, PlainRead, PlainRedirect, PlainRunEngine, PlainSetAlias, PlainSetItem, PlainSetValue, PlainSetVariable, PlainSignal, PlainSize, PlainWrite, Silent, TreeAct, TreeAfter, TreeFocus, TreeFrame, TreeHere, TreeMoved, TreeRaising, TreeRun, TreeUnder, TreeUnmet, TreeValue, block_at, frames_of, names_at, pending_frames, read_operation, scope_after, term_of, tree_moved, vars_at}
 use Rattle.obq_windows.specs.Values.{ClosureValue, ExceptionValue, IntValue, LocationValue, NoValues, OkayValue, PlainValue, Table, TextValue, ThreadValue, TruthValue, closure_of, proc_named, read_all, read_value, read_values}
 use Rattle.obq_windows.specs.Windows.{Activation, NodeAct, NodeAfter, NodeCalled, NodeFocus, NodeFrame, NodeHere, NodeMoved, NodeRun, NodeWithin, Store, activation_of, bind, node_moved, vars_node}
 use Rattle.obq_windows.proofs.Acts.{Asked, act_asks}
@@ -104,6 +104,11 @@ value_answered {R} T S g act b ns fs fr k (PlainItemOf r i) na after h l v c = r
 value_answered {R} T S g act b ns fs fr k (PlainSize r) na after h l v c = record { same = record { tag = refl; makes = refl; height = b; frames = fr; focus = refl }; complete = record { frames = k; focus = c }; term = refl }
 value_answered {R} T S g act b ns fs fr k (PlainNewArray vs) na after h l v c = record { same = record { tag = refl; makes = refl; height = b; frames = fr; focus = refl }; complete = record { frames = k; focus = c }; term = refl }
 value_answered {R} T S g act b ns fs fr k PlainNewCondition na after h l v c = record { same = record { tag = refl; makes = refl; height = b; frames = fr; focus = refl }; complete = record { frames = k; focus = c }; term = refl }
+value_answered {R} T S g act b ns fs fr k (PlainForkOff f) na after h l v c = record { same = record { tag = refl; makes = refl; height = b; frames = fr; focus = refl }; complete = record { frames = k; focus = c }; term = refl }
+value_answered {R} T S g act b ns fs fr k (PlainRunEngine e f) na after h l v c = record { same = record { tag = refl; makes = refl; height = b; frames = fr; focus = refl }; complete = record { frames = k; focus = c }; term = refl }
+value_answered {R} T S g act b ns fs fr k (PlainExport x namer u) na after h l v c = record { same = record { tag = refl; makes = refl; height = b; frames = fr; focus = refl }; complete = record { frames = k; focus = c }; term = refl }
+value_answered {R} T S g act b ns fs fr k (PlainImport x namer engine) na after h l v c = record { same = record { tag = refl; makes = refl; height = b; frames = fr; focus = refl }; complete = record { frames = k; focus = c }; term = refl }
+value_answered {R} T S g act b ns fs fr k (PlainNewEngine x namer u) na after h l v c = record { same = record { tag = refl; makes = refl; height = b; frames = fr; focus = refl }; complete = record { frames = k; focus = c }; term = refl }
 value_answered {R} T S g act b ns fs fr k (PlainLeave o u) na after h l v c = record { same = record { tag = refl; makes = refl; height = b; frames = fr; focus = refl }; complete = record { frames = k; focus = c }; term = refl }
 value_answered {R} T S g act b ns fs fr k (PlainSetVariable r u) na after h l v c = record { same = record { tag = refl; makes = refl; height = b; frames = fr; focus = refl }; complete = record { frames = k; focus = c }; term = refl }
 value_answered {R} T S g act b ns fs fr k (PlainSetItem r i u) na after h l v c = record { same = record { tag = refl; makes = refl; height = b; frames = fr; focus = refl }; complete = record { frames = k; focus = c }; term = refl }
@@ -185,7 +190,7 @@ pub answers_read : {R : Type 0} → AnswersRead R
 answers_read {R} eq T S g a s act ns op na t r o around e answer c =
     let at : AtAct T S act r.height op na r.focus = at_act T S act r.height op na r.focus r.is_focus in
     let l : CompleteOperation T op × CompleteAfter T at.after = subst (λ (z : TreeFocus R). CompleteFocus T z) at.is_act r.complete.focus in
-    let asked : Asked T r.frames op at.after o around = act_asks eq T a s r.frames op at.after o around (sym (ap (find eq a s) (r.term ∙ ap (term_of T r.frames) at.is_act)) ∙ e) in
+    let asked : Asked T r.frames op at.after o around = act_asks eq T (made_of T S g) a s r.frames op at.after o around (sym (ap (find eq a s) (r.term ∙ ap (term_of T r.frames) at.is_act)) ∙ e) in
     let m : Answered T S (answer_node S op na answer act ns) (answer_tree T op at.after answer r.frames) (plug (frames_of T r.frames) (left_by T (read_operation T op (scope_after T at.after)) answer)) =
     answered T S g act r.height ns r.frames r.are_frames r.complete.frames op na at.after at.is_after l.1 answer c in
     record {

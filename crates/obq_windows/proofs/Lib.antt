@@ -10,6 +10,7 @@ pub mod Begins
 pub mod BuiltIns
 pub mod Calls
 pub mod Closing
+pub mod Counts
 pub mod Depths
 pub mod Envs
 pub mod Example
