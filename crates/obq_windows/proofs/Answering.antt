@@ -1,5 +1,5 @@
 -- What an act leaves at its form.
-use Rattle.std.specs.Prelude.{List, None, Option, Some, [], is_some, length, refl, slice_get, suc, unwrap_or, ℕ, ◌++◌, ◌∷◌, ◌≡◌}
+use Rattle.std.specs.Prelude.{Bool, List, None, Option, Some, [], false, is_some, length, refl, slice_get, suc, true, unwrap_or, ℕ, ◌++◌, ◌∷◌, ◌≡◌}
 use Rattle.std.proofs.Common.{ap, inl, inr, subst, sym, ◌∙◌}
 use Rattle.obq_base.specs.Tree.{AnItem, NoItems}
 use Rattle.obq_base.specs.declared.code.Code.{Code}
@@ -14,14 +14,14 @@ use Rattle.obq_model.specs.Step.{Frame, Operation, body_with, find, plug}
 use Rattle.obq_model.specs.Terms.{Const, Object, Okay, Term}
 use Rattle.obq_model.proofs.Among.{true_false}
 use Rattle.obq_model.proofs.Plug.{plug_append}
-use Rattle.obq_windows.specs.Acts.{AnswerCalled, AnswerForm, AnswerMethod, AnswerRaising, AnswerValue, AnswersRead, CompleteAnswer, HasParameters, PlainAnswer, Takes, answer_node, answer_tree, enter_node_code, enter_node_value, enter_tree, enter_tree_code, enter_tree_value, left_by, value_at_node, value_at_tree}
+use Rattle.obq_windows.specs.Acts.{AnswerCalled, AnswerForm, AnswerMethod, AnswerRaising, AnswerValue, AnswersRead, CompleteAnswer, HasParameters, PlainAnswer, Takes, answer_node, answer_tree, enter_node_code, enter_node_value, enter_tree, enter_tree_code, enter_tree_value, left_by, scope_of, value_at_node, value_at_tree}
 use Rattle.obq_windows.specs.Agrees.{AfterIs, Agrees, Alike, FocusIs, FrameIs, FramesAre, Same, StandsAt, act_behind, height_behind}
 use Rattle.obq_windows.specs.Complete.{AllComplete, CompleteAfter, CompleteFocus, CompleteFrames, CompleteOperation, CompletePending, CompletePlace, IsComplete, Knows}
 use Rattle.obq_windows.specs.Moves.{begin_vars}
 use Rattle.obq_windows.specs.Places.{Place, bind_of, outside_at, place_of, with_bound, zipped}
-use Rattle.obq_windows.specs.Trees.{BlockTask, ExprTask, ItemsTask, PendingCalled, PendingForm, PendingWithin, PlainBroadcast, PlainExport, PlainForkOff, PlainGet, PlainImport, PlainInvoke, PlainItemOf, PlainJoin, PlainLeave, PlainNewArray, PlainNewCondition, PlainNewEngine, PlainNewVariable, PlainOperation, PlainRead, PlainRedirect, PlainRunEngine, PlainSetAlias, PlainSetItem, PlainSetValue, PlainSetVariable, PlainSignal, PlainSize, PlainWrite, Silent, TreeAct, TreeAfter, TreeFocus, TreeFrame, TreeHere, TreeMoved, TreeRaising, TreeRun, TreeUnder, TreeUnmet, TreeValue, block_at, frames_of, names_at, pending_frames, read_operation, scope_after, term_of, tree_moved, vars_at}
+use Rattle.obq_windows.specs.Trees.{BlockTask, ExprTask, ItemsTask, NoScope, PendingCalled, PendingForm, PendingWithin, PlainBroadcast, PlainExport, PlainForkOff, PlainGet, PlainImport, PlainInvoke, PlainItemOf, PlainJoin, PlainLeave, PlainNewArray, PlainNewCondition, PlainNewEngine, PlainNewVariable, PlainOperation, PlainRead, PlainRedirect, PlainRunEngine, PlainSetAlias, PlainSetItem, PlainSetValue, PlainSetVariable, PlainSignal, PlainSize, PlainWrite, ScopeKind, Silent, TreeAct, TreeAfter, TreeFocus, TreeFrame, TreeHere, TreeMoved, TreeRaising, TreeRun, TreeUnder, TreeUnmet, TreeValue, act_form, block_at, frames_of, kind_of, names_at, pending_frames, read_operation, scope_after, term_of, vars_at}
 use Rattle.obq_windows.specs.Values.{ClosureValue, ExceptionValue, IntValue, LocationValue, NoValues, OkayValue, PlainValue, Table, TextValue, ThreadValue, TruthValue, closure_of, proc_named, read_all, read_value, read_values}
-use Rattle.obq_windows.specs.Windows.{Activation, NodeAct, NodeAfter, NodeCalled, NodeFocus, NodeFrame, NodeHere, NodeMoved, NodeRun, NodeWithin, Store, activation_of, bind, node_moved, vars_node}
+use Rattle.obq_windows.specs.Windows.{Activation, NodeAct, NodeAfter, NodeCalled, NodeFocus, NodeFrame, NodeMoved, NodeRun, NodeWithin, Store, activation_of, bind, node_moved, vars_node}
 use Rattle.obq_windows.proofs.Acts.{Asked, act_asks}
 use Rattle.obq_windows.proofs.AlikeCalls.{at_entry}
 use Rattle.obq_windows.proofs.AlikeGives.{var_alike}
@@ -66,6 +66,45 @@ at_act {R} T S act b op na (TreeAct op2 after) h = record {
   is_after = subst (λ (z : NodeAfter). AfterIs T S act b z after) (sym (ap (after_at na) h.1)) h.2;
 }
 
+abbrev has_no_scope : ScopeKind → Bool
+has_no_scope NoScope = true
+has_no_scope kind = false
+
+-- where the answer goes in place
+no_scope : {R : Type 0} → (T : Table R) (op : PlainOperation R) (after : TreeAfter R) → kind_of op ≡ NoScope → CompleteAfter T op after → scope_after T after ≡ Const Okay
+no_scope T op TreeHere e l = refl
+no_scope T op (TreeUnder p x bs is) e l = absurd (true_false (ap has_no_scope (sym e ∙ l.1)))
+
+-- the scope of a form is that of its operation
+scope_is : {R : Type 0} → (T : Table R) (op : PlainOperation R) (after : TreeAfter R) → CompleteAfter T op after → scope_of (read_operation T op (scope_after T after)) ≡ scope_after T after
+scope_is T (PlainGet o x) after l = sym (no_scope T (PlainGet o x) after refl l)
+scope_is T (PlainRead r) after l = sym (no_scope T (PlainRead r) after refl l)
+scope_is T (PlainWrite x t) after l = sym (no_scope T (PlainWrite x t) after refl l)
+scope_is T (PlainInvoke o x vs) after l = sym (no_scope T (PlainInvoke o x vs) after refl l)
+scope_is T (PlainItemOf r i) after l = sym (no_scope T (PlainItemOf r i) after refl l)
+scope_is T (PlainSize r) after l = sym (no_scope T (PlainSize r) after refl l)
+scope_is T (PlainNewArray vs) after l = sym (no_scope T (PlainNewArray vs) after refl l)
+scope_is T PlainNewCondition after l = sym (no_scope T PlainNewCondition after refl l)
+scope_is T (PlainForkOff f) after l = sym (no_scope T (PlainForkOff f) after refl l)
+scope_is T (PlainRunEngine e f) after l = sym (no_scope T (PlainRunEngine e f) after refl l)
+scope_is T (PlainExport x namer u) after l = sym (no_scope T (PlainExport x namer u) after refl l)
+scope_is T (PlainImport x namer engine) after l = sym (no_scope T (PlainImport x namer engine) after refl l)
+scope_is T (PlainNewEngine x namer u) after l = sym (no_scope T (PlainNewEngine x namer u) after refl l)
+scope_is T (PlainLeave o u) after l = sym (no_scope T (PlainLeave o u) after refl l)
+scope_is T (PlainSetVariable r u) after l = sym (no_scope T (PlainSetVariable r u) after refl l)
+scope_is T (PlainSetItem r i u) after l = sym (no_scope T (PlainSetItem r i u) after refl l)
+scope_is T (PlainSetValue o x u) after l = sym (no_scope T (PlainSetValue o x u) after refl l)
+scope_is T (PlainSetAlias o x q y) after l = sym (no_scope T (PlainSetAlias o x q y) after refl l)
+scope_is T (PlainRedirect o q) after l = sym (no_scope T (PlainRedirect o q) after refl l)
+scope_is T (PlainSignal x) after l = sym (no_scope T (PlainSignal x) after refl l)
+scope_is T (PlainBroadcast x) after l = sym (no_scope T (PlainBroadcast x) after refl l)
+scope_is T (PlainJoin t) after l = sym (no_scope T (PlainJoin t) after refl l)
+scope_is T (PlainNewVariable u) after l = refl
+
+same_kind : {R : Type 0} → (T : Table R) (op p : PlainOperation R) (after : TreeAfter R) → kind_of p ≡ kind_of op → CompleteAfter T op after → CompleteAfter T p after
+same_kind T op p TreeHere e l = e ∙ l
+same_kind T op p (TreeUnder q x bs is) e l = (l.0, e ∙ l.1)
+
 -- what an answer makes of the two windows
 record Answered {R : Type 0} (T : Table R) (S : Store R) (m : NodeMoved R) (t : TreeMoved R) (u : Term R) : Type 0 where
   same : Alike T S m t
@@ -78,11 +117,9 @@ of_same T S m t e (inl (q, k)) = absurd (true_false (ap is_left_out (sym k ∙ e
 of_same T S m t e (inr k) = k
 
 -- a new variable goes under its name
-variable_answered : {R : Type 0} → (T : Table R) (S : Store R) → Agrees T S → (act : Activation R) (b : ℕ) (ns : List (NodeFrame R)) (fs : List (TreeFrame R)) → FramesAre T S act b ns fs → CompleteFrames T fs → (u : PlainValue R) (na : NodeAfter) (after : TreeAfter R) → AfterIs T S act b na after → CompleteAfter T after
+variable_answered : {R : Type 0} → (T : Table R) (S : Store R) → Agrees T S → (act : Activation R) (b : ℕ) (ns : List (NodeFrame R)) (fs : List (TreeFrame R)) → FramesAre T S act b ns fs → CompleteFrames T fs → (u : PlainValue R) (na : NodeAfter) (after : TreeAfter R) → AfterIs T S act b na after → CompleteAfter T (PlainNewVariable u) after
     → (v : PlainValue R) → IsComplete T v → Answered T S (value_at_node S (PlainNewVariable u) na v act ns) (value_at_tree (PlainNewVariable u) after v fs) (plug (frames_of T fs) (enter (read_value T v ∷ []) (scope_after T after)))
-variable_answered {R} T S g act b ns fs fr k u na TreeHere h l v c =
-    subst (λ (z : NodeAfter). Answered T S (value_at_node S (PlainNewVariable u) z v act ns) (tree_moved Silent fs (TreeValue OkayValue)) (plug (frames_of T fs) (Const Okay))) (sym h)
-    (record { same = record { tag = refl; makes = refl; height = b; frames = fr; focus = refl }; complete = record { frames = k; focus = tt }; term = refl })
+variable_answered {R} T S g act b ns fs fr k u na TreeHere h l v c = absurd (true_false (ap has_no_scope (sym l)))
 variable_answered {R} T S g act b ns fs fr k u na (TreeUnder p x bs is) h l v c =
     subst (λ (z : NodeAfter). Answered T S (value_at_node S (PlainNewVariable u) z v act ns) (begin_vars Silent (with_bound p (bind_of x v ∷ [])) bs is fs) (plug (frames_of T fs) (enter (read_value T v ∷ []) (vars_at T p x bs is)))) (sym h.2)
     (record {
@@ -90,11 +127,11 @@ variable_answered {R} T S g act b ns fs fr k u na (TreeUnder p x bs is) h l v c 
           (subst (λ (z : Place R). Same T S (vars_node S Silent (bind act b (v ∷ [])) ns h.0 (count_binds bs) h.1 (count_items is) (suc b)) (begin_vars Silent (with_bound z (bind_of x v ∷ [])) bs is fs)) (sym h.3.1)
           (var_alike T S g act b h.3.0 h.3.2 ns fs fr h.0 h.1 x bs is v
           (subst (λ (z : Place R). StandsAt T S z.code (draft_binds (outside_at T z) (names_at z ++ x ∷ []) bs) h.0) h.3.1 h.4) (subst (λ (z : Place R). StandsAt T S z.code (draft_items (outside_at T z) ((names_at z ++ x ∷ []) ++ bind_names bs) is) h.1) h.3.1 h.5)));
-      complete = vars_kept T Silent (with_bound p (bind_of x v ∷ [])) bs is fs (place_more T p (bind_of x v ∷ []) l (c, tt)) k;
+      complete = vars_kept T Silent (with_bound p (bind_of x v ∷ [])) bs is fs (place_more T p (bind_of x v ∷ []) l.0 (c, tt)) k;
       term = sym (whole T fs _ _ _ (vars_start T fs Silent (with_bound p (bind_of x v ∷ [])) bs is).leads) ∙ ap (plug (frames_of T fs)) (sym (var_given T p x v bs is));
     })
 
-value_answered : {R : Type 0} → (T : Table R) (S : Store R) → Agrees T S → (act : Activation R) (b : ℕ) (ns : List (NodeFrame R)) (fs : List (TreeFrame R)) → FramesAre T S act b ns fs → CompleteFrames T fs → (op : PlainOperation R) (na : NodeAfter) (after : TreeAfter R) → AfterIs T S act b na after → CompleteAfter T after
+value_answered : {R : Type 0} → (T : Table R) (S : Store R) → Agrees T S → (act : Activation R) (b : ℕ) (ns : List (NodeFrame R)) (fs : List (TreeFrame R)) → FramesAre T S act b ns fs → CompleteFrames T fs → (op : PlainOperation R) (na : NodeAfter) (after : TreeAfter R) → AfterIs T S act b na after → CompleteAfter T op after
     → (v : PlainValue R) → IsComplete T v → Answered T S (value_at_node S op na v act ns) (value_at_tree op after v fs) (plug (frames_of T fs) (left_by T (read_operation T op (scope_after T after)) (AnswerValue v)))
 value_answered {R} T S g act b ns fs fr k (PlainGet o x) na after h l v c = record { same = record { tag = refl; makes = refl; height = b; frames = fr; focus = refl }; complete = record { frames = k; focus = c }; term = refl }
 value_answered {R} T S g act b ns fs fr k (PlainRead r) na after h l v c = record { same = record { tag = refl; makes = refl; height = b; frames = fr; focus = refl }; complete = record { frames = k; focus = c }; term = refl }
@@ -176,10 +213,14 @@ entered_answer T S g act b ns fs fr k f pending caller around (ExceptionValue z)
 entered_answer T S g act b ns fs fr k f pending caller around (ThreadValue z) vs c d t = absurd t
 entered_answer T S g act b ns fs fr k f pending caller around (LocationValue z r) vs c d t = absurd t
 
-answered : {R : Type 0} → (T : Table R) (S : Store R) → Agrees T S → (act : Activation R) (b : ℕ) (ns : List (NodeFrame R)) (fs : List (TreeFrame R)) → FramesAre T S act b ns fs → CompleteFrames T fs → (op : PlainOperation R) (na : NodeAfter) (after : TreeAfter R) → AfterIs T S act b na after → CompleteAfter T after
-    → (answer : PlainAnswer R) → CompleteAnswer T answer → Answered T S (answer_node S op na answer act ns) (answer_tree T op after answer fs) (plug (frames_of T fs) (left_by T (read_operation T op (scope_after T after)) answer))
+answered : {R : Type 0} → (T : Table R) (S : Store R) → Agrees T S → (act : Activation R) (b : ℕ) (ns : List (NodeFrame R)) (fs : List (TreeFrame R)) → FramesAre T S act b ns fs → CompleteFrames T fs → (op : PlainOperation R) (na : NodeAfter) (after : TreeAfter R) → AfterIs T S act b na after → CompleteAfter T op after
+    → (answer : PlainAnswer R) → CompleteAnswer T op answer → Answered T S (answer_node S op na answer act ns) (answer_tree T op after answer fs) (plug (frames_of T fs) (left_by T (read_operation T op (scope_after T after)) answer))
 answered T S g act b ns fs fr k op na after h l (AnswerRaising r) c = record { same = record { tag = refl; makes = refl; height = b; frames = fr; focus = refl }; complete = record { frames = k; focus = tt }; term = refl }
-answered T S g act b ns fs fr k op na after h l (AnswerForm p) c = record { same = record { tag = refl; makes = refl; height = b; frames = fr; focus = (NodeHere, refl, refl) }; complete = record { frames = k; focus = (c, tt) }; term = refl }
+answered T S g act b ns fs fr k op na after h l (AnswerForm p) c = record {
+  same = record { tag = refl; makes = refl; height = b; frames = fr; focus = (na, refl, h) };
+  complete = record { frames = k; focus = (c.0, same_kind T op p after c.1 l) };
+  term = ap (λ (u : Term _). plug (frames_of T fs) (act_form T p u)) (sym (scope_is T op after l));
+}
 answered {R} T S g act b ns fs fr k op na after h l (AnswerMethod o m f vs) c =
     entered_answer T S g act b ns fs fr k (NodeWithin act o m) (PendingWithin o m) (record { is_frame = λ z n p. (act, refl); back = λ z. refl; low = λ n. refl; complete = tt; same_frames = λ p q. refl }) (place_of (record { source = 0; n = 0 }) 0 0 [] NoValues []) f (LocationValue Object o ∷ vs) c.0 (tt, c.1) c.2
 answered {R} T S g act b ns fs fr k op na after h l (AnswerCalled f vs) c =
@@ -189,7 +230,7 @@ answered T S g act b ns fs fr k op na after h l (AnswerValue v) c = value_answer
 pub answers_read : {R : Type 0} → AnswersRead R
 answers_read {R} eq T S g a s act ns op na t r o around e answer c =
     let at : AtAct T S act r.height op na r.focus = at_act T S act r.height op na r.focus r.is_focus in
-    let l : CompleteOperation T op × CompleteAfter T at.after = subst (λ (z : TreeFocus R). CompleteFocus T z) at.is_act r.complete.focus in
+    let l : CompleteOperation T op × CompleteAfter T op at.after = subst (λ (z : TreeFocus R). CompleteFocus T z) at.is_act r.complete.focus in
     let asked : Asked T r.frames op at.after o around = act_asks eq T (made_of T S g) a s r.frames op at.after o around (sym (ap (find eq a s) (r.term ∙ ap (term_of T r.frames) at.is_act)) ∙ e) in
     let m : Answered T S (answer_node S op na answer act ns) (answer_tree T op at.after answer r.frames) (plug (frames_of T r.frames) (left_by T (read_operation T op (scope_after T at.after)) answer)) =
     answered T S g act r.height ns r.frames r.are_frames r.complete.frames op na at.after at.is_after l.1 answer c in
