@@ -12,12 +12,12 @@ use Rattle.obq_model.specs.Scopes.{slots_of}
 use Rattle.obq_model.specs.Terms.{Apply, Array, Bytes, Condition, Engine, Held, Index, Inner, Invoke, Mode, Object, Plain, Select, Variable, Writer}
 use Rattle.obq_model.proofs.Among.{true_false}
 use Rattle.obq_model.proofs.Drafted.{drafted_block, drafted_expr, drafted_suffix}
-use Rattle.obq_windows.specs.Agrees.{Agrees, FramesAre, IsBound, Same, StandsAt, place_at}
-use Rattle.obq_windows.specs.Moves.{begin_args, begin_arms, begin_binds, begin_count, begin_vars, count_at, give_and, give_field, give_guard, give_if, give_left, give_or, give_raise, give_suffix, give_to, leave_tree, next_count, with_links, with_suffixes}
+use Rattle.obq_windows.specs.Agrees.{Agrees, Alike, FramesAre, IsBound, Same, StandsAt, place_at}
+use Rattle.obq_windows.specs.Moves.{begin_args, begin_arms, begin_binds, begin_count, begin_vars, count_at, give_and, give_field, give_foreach, give_guard, give_if, give_left, give_or, give_raise, give_suffix, give_to, leave_tree, next_count, with_links, with_suffixes}
 use Rattle.obq_windows.specs.Places.{Bound, bind_of, bound_names, outside_at, with_bound}
-use Rattle.obq_windows.specs.Trees.{Asks, BlockTask, ExprTask, Kept, KeptRaising, KeptValue, PendingChain, PendingCount, PendingGuard, PendingRight, PlainGet, PlainLeave, Silent, Stepped, ToCall, ToIndex, ToInvoke, ToSetAlias, ToSetValue, TreeAct, TreeFrame, TreeHere, TreeRaising, TreeRun, TreeUnmet, TreeValue, push, tree_moved, tree_raises}
+use Rattle.obq_windows.specs.Trees.{Asks, BlockTask, ExprTask, Kept, KeptRaising, KeptValue, PendingChain, PendingCount, PendingEach, PendingGuard, PendingRight, PlainEachSize, PlainGet, PlainLeave, Silent, Stepped, ToCall, ToIndex, ToInvoke, ToSetAlias, ToSetValue, TreeAct, TreeFrame, TreeHere, TreeRaising, TreeRun, TreeScope, TreeUnmet, TreeValue, push, tree_moved, tree_raises}
 use Rattle.obq_windows.specs.Values.{ClosureValue, ExceptionValue, IntValue, LocationValue, OkayValue, PlainValue, Table, TextValue, ThreadValue, TruthValue}
-use Rattle.obq_windows.specs.Windows.{Activation, NodeAct, NodeChain, NodeCount, NodeFrame, NodeGuard, NodeHere, NodeMoved, NodeRaising, NodeRight, NodeRun, NodeUnmet, NodeValue, Store, args_node, bind, binds_node, count_node, count_node_at, give_node_and, give_node_field, give_node_guard, give_node_if, give_node_left, give_node_or, give_node_raise, give_node_suffix, give_node_to, guards_node, leave_node, next_count_node, node_at, node_moved, node_raises, operator_in, vars_node, with_operator, with_suffix}
+use Rattle.obq_windows.specs.Windows.{Activation, NodeAct, NodeChain, NodeCount, NodeEach, NodeFrame, NodeGuard, NodeHere, NodeMoved, NodeRaising, NodeRight, NodeRun, NodeScope, NodeUnmet, NodeValue, Store, args_node, bind, binds_node, count_node, count_node_at, give_node_and, give_node_field, give_node_foreach, give_node_guard, give_node_if, give_node_left, give_node_or, give_node_raise, give_node_suffix, give_node_to, guards_node, leave_node, next_count_node, node_at, node_moved, node_raises, operator_in, vars_node, with_operator, with_suffix}
 use Rattle.obq_windows.proofs.Alike.{arms_alike, at_node, expr_head, plain_node, suffix_frames}
 use Rattle.obq_windows.proofs.AlikeCalls.{alone, args_alike}
 use Rattle.obq_windows.proofs.AlikeItems.{binds_alike, respelled, vars_alike}
@@ -196,6 +196,36 @@ leave_alike T S act b ns fs fr o Plain (KeptValue v) = alike T S Stepped act b n
 leave_alike T S act b ns fs fr o Plain (KeptRaising r) = alike T S Stepped act b ns (NodeRaising r) fs (TreeRaising r) fr refl
 leave_alike T S act b ns fs fr o Inner (KeptValue v) = alike T S Stepped act b ns (NodeValue v) fs (TreeValue v) fr refl
 leave_alike T S act b ns fs fr o Inner (KeptRaising r) = alike T S Stepped act b ns (NodeRaising r) fs (TreeRaising r) fr refl
+
+pub foreach_alike : {R : Type 0} → (T : Table R) (S : Store R) (act : Activation R) (b : ℕ) (bound : List (Bound R)) → IsBound act b bound → (ns : List (NodeFrame R)) (fs : List (TreeFrame R)) → FramesAre T S act b ns fs → (child : ℕ) (x : Bytes) (block : BlockTree) (v : PlainValue R)
+    → StandsAt T S act.code (draft_block (outside_at T (place_at act bound)) (bound_names bound ++ x ∷ []) block) child → Same T S (give_node_foreach v act ns child b) (give_foreach v (place_at act bound) x block fs)
+foreach_alike T S act b bound w ns fs fr child x block (IntValue z) h = alike T S Stepped act b ns (node_raises (codes "type")) fs (tree_raises (codes "type")) fr refl
+foreach_alike T S act b bound w ns fs fr child x block (TruthValue z) h = alike T S Stepped act b ns (node_raises (codes "type")) fs (tree_raises (codes "type")) fr refl
+foreach_alike T S act b bound w ns fs fr child x block OkayValue h = alike T S Stepped act b ns (node_raises (codes "type")) fs (tree_raises (codes "type")) fr refl
+foreach_alike T S act b bound w ns fs fr child x block (TextValue z) h = alike T S Stepped act b ns (node_raises (codes "type")) fs (tree_raises (codes "type")) fr refl
+foreach_alike T S act b bound w ns fs fr child x block (ExceptionValue z) h = alike T S Stepped act b ns (node_raises (codes "type")) fs (tree_raises (codes "type")) fr refl
+foreach_alike T S act b bound w ns fs fr child x block (ThreadValue z) h = alike T S Stepped act b ns (node_raises (codes "type")) fs (tree_raises (codes "type")) fr refl
+foreach_alike T S act b bound w ns fs fr child x block (LocationValue Object z) h = alike T S Stepped act b ns (node_raises (codes "type")) fs (tree_raises (codes "type")) fr refl
+foreach_alike T S act b bound w ns fs fr child x block (LocationValue Variable z) h = alike T S Stepped act b ns (node_raises (codes "type")) fs (tree_raises (codes "type")) fr refl
+foreach_alike T S act b bound w ns fs fr child x block (LocationValue Writer z) h = alike T S Stepped act b ns (node_raises (codes "type")) fs (tree_raises (codes "type")) fr refl
+foreach_alike T S act b bound w ns fs fr child x block (LocationValue Condition z) h = alike T S Stepped act b ns (node_raises (codes "type")) fs (tree_raises (codes "type")) fr refl
+foreach_alike T S act b bound w ns fs fr child x block (LocationValue Engine z) h = alike T S Stepped act b ns (node_raises (codes "type")) fs (tree_raises (codes "type")) fr refl
+foreach_alike T S act b bound w ns fs fr child x block (ClosureValue t c group index cs) h = alike T S Stepped act b ns (node_raises (codes "type")) fs (tree_raises (codes "type")) fr refl
+foreach_alike T S act b bound w ns fs fr child x block (LocationValue Array r) h = alike T S (Asks (PlainEachSize r)) act b ns (NodeAct (PlainEachSize r) (NodeScope child b)) fs (TreeAct (PlainEachSize r) (TreeScope (place_at act bound) x block)) fr (NodeScope child b, refl, (child, refl, (bound, refl, w), h))
+
+-- the block of a `foreach` with an item
+pub item_alike : {R : Type 0} → (T : Table R) (S : Store R) (act : Activation R) (b : ℕ) (bound : List (Bound R)) → IsBound act b bound → (ns : List (NodeFrame R)) (fs : List (TreeFrame R)) → FramesAre T S act b ns fs → (child : ℕ) (x : Bytes) (block : BlockTree) (r : R) (i n : ℕ) (v : PlainValue R)
+    → StandsAt T S act.code (draft_block (outside_at T (place_at act bound)) (bound_names bound ++ x ∷ []) block) child
+    → Alike T S (node_moved Silent (bind act b (v ∷ [])) (NodeEach r i n child b ∷ ns) (NodeRun child (suc b))) (tree_moved Silent (push (place_at act bound) (PendingEach r i n x block) fs) (TreeRun (with_bound (place_at act bound) (bind_of x v ∷ [])) (BlockTask block)))
+item_alike {R} T S act b bound w ns fs fr child x block r i n v h = record {
+  tag = refl;
+  makes = refl;
+  height = suc b;
+  frames = (NodeEach r i n child b, ns, refl, (child, b, refl, one_more b, place_kept act b b (v ∷ []) (place_at act bound) (not_above b) (bound, refl, w), h), frames_kept T S act b b (v ∷ []) ns fs (not_above b) fr);
+  focus = (child, refl, (bound ++ bind_of x v ∷ [], refl, bound_more_is act b bound x v w), respelled (λ z. draft_block (outside_at T (place_at act bound)) z block) _ _ (sym (names_more bound x v)) h);
+} where
+  one_more : (n : ℕ) → n ≤ suc n
+  one_more n = omega arith
 
 field_plain : {R : Type 0} → (S : Store R) (k : ℕ) (v : PlainValue R) (x : Bytes) (act : Activation R) (ns : List (NodeFrame R)) (child b : ℕ) (a : Node) → plain_node a ≡ true → give_node_field S k v x act ns child b (Some a) ≡ args_node S k (ToSetValue x) act (v ∷ []) child 1 b ns
 field_plain S k v x act ns child b (n.Alias y) e = absurd (true_false (sym e))

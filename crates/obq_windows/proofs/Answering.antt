@@ -5,13 +5,13 @@ use Rattle.obq_base.specs.Tree.{AnItem, NoItems}
 use Rattle.obq_base.specs.declared.code.Code.{Code}
 use Rattle.obq_base.specs.declared.code.CodeNo.{CodeNo}
 use Rattle.obq_model.specs.CodeLaws.{IsCodeAt}
-use Rattle.obq_model.specs.Draft.{count_binds, count_items, draft_binds, draft_items}
+use Rattle.obq_model.specs.Draft.{count_binds, count_items, draft_binds, draft_block, draft_items}
 use Rattle.obq_model.specs.Occurrences.{bind_names}
 use Rattle.obq_model.specs.Procedures.{Proc}
 use Rattle.obq_model.specs.Put.{enter}
 use Rattle.obq_model.specs.Resolved.{IsNumbered}
 use Rattle.obq_model.specs.Step.{Frame, Operation, body_with, find, plug}
-use Rattle.obq_model.specs.Terms.{Const, Object, Okay, Term}
+use Rattle.obq_model.specs.Terms.{Const, EachIn, End, Form, Object, Okay, Part, Term}
 use Rattle.obq_model.proofs.Among.{true_false}
 use Rattle.obq_model.proofs.Plug.{plug_append}
 use Rattle.obq_windows.specs.Acts.{AnswerCalled, AnswerForm, AnswerMethod, AnswerRaising, AnswerValue, AnswersRead, CompleteAnswer, HasParameters, PlainAnswer, Takes, answer_node, answer_tree, enter_node_code, enter_node_value, enter_tree, enter_tree_code, enter_tree_value, left_by, scope_of, value_at_node, value_at_tree}
@@ -19,16 +19,16 @@ use Rattle.obq_windows.specs.Agrees.{AfterIs, Agrees, Alike, FocusIs, FrameIs, F
 use Rattle.obq_windows.specs.Complete.{AllComplete, CompleteAfter, CompleteFocus, CompleteFrames, CompleteOperation, CompletePending, CompletePlace, IsComplete, Knows}
 use Rattle.obq_windows.specs.Moves.{begin_vars}
 use Rattle.obq_windows.specs.Places.{Place, bind_of, outside_at, place_of, with_bound, zipped}
-use Rattle.obq_windows.specs.Trees.{BlockTask, ExprTask, ItemsTask, NoScope, PendingCalled, PendingForm, PendingWithin, PlainBroadcast, PlainExport, PlainForkOff, PlainGet, PlainImport, PlainInvoke, PlainItemOf, PlainJoin, PlainLeave, PlainNewArray, PlainNewCondition, PlainNewEngine, PlainNewVariable, PlainOperation, PlainRead, PlainRedirect, PlainRunEngine, PlainSetAlias, PlainSetItem, PlainSetValue, PlainSetVariable, PlainSignal, PlainSize, PlainWrite, ScopeKind, Silent, TreeAct, TreeAfter, TreeFocus, TreeFrame, TreeHere, TreeMoved, TreeRaising, TreeRun, TreeUnder, TreeUnmet, TreeValue, act_form, block_at, frames_of, kind_of, names_at, pending_frames, read_operation, scope_after, term_of, vars_at}
+use Rattle.obq_windows.specs.Trees.{BlockTask, ExprTask, ItemsTask, NameScope, NoScope, PendingCalled, PendingEach, PendingForm, PendingWithin, PlainBroadcast, PlainEachItem, PlainEachSize, PlainExport, PlainForkOff, PlainGet, PlainImport, PlainInvoke, PlainItemOf, PlainJoin, PlainLeave, PlainNewArray, PlainNewCondition, PlainNewEngine, PlainNewVariable, PlainOperation, PlainRead, PlainRedirect, PlainRunEngine, PlainSetAlias, PlainSetItem, PlainSetValue, PlainSetVariable, PlainSignal, PlainSize, PlainWrite, ScopeKind, Silent, TreeAct, TreeAfter, TreeFocus, TreeFrame, TreeHere, TreeMoved, TreeRaising, TreeRun, TreeScope, TreeUnder, TreeUnmet, TreeValue, act_form, block_at, frames_of, kind_of, names_at, pending_frames, push, read_operation, scope_after, scope_at, term_of, tree_moved, vars_at}
 use Rattle.obq_windows.specs.Values.{ClosureValue, ExceptionValue, IntValue, LocationValue, NoValues, OkayValue, PlainValue, Table, TextValue, ThreadValue, TruthValue, closure_of, proc_named, read_all, read_value, read_values}
-use Rattle.obq_windows.specs.Windows.{Activation, NodeAct, NodeAfter, NodeCalled, NodeFocus, NodeFrame, NodeMoved, NodeRun, NodeWithin, Store, activation_of, bind, node_moved, vars_node}
+use Rattle.obq_windows.specs.Windows.{Activation, NodeAct, NodeAfter, NodeCalled, NodeEach, NodeFocus, NodeFrame, NodeMoved, NodeRun, NodeWithin, Store, activation_of, bind, node_moved, vars_node}
 use Rattle.obq_windows.proofs.Acts.{Asked, act_asks}
 use Rattle.obq_windows.proofs.AlikeCalls.{at_entry}
-use Rattle.obq_windows.proofs.AlikeGives.{var_alike}
+use Rattle.obq_windows.proofs.AlikeGives.{item_alike, var_alike}
 use Rattle.obq_windows.proofs.Around.{are_frames, whole}
 use Rattle.obq_windows.proofs.Calls.{body_right}
 use Rattle.obq_windows.proofs.Frames.{frames_full}
-use Rattle.obq_windows.proofs.Gives.{var_given}
+use Rattle.obq_windows.proofs.Gives.{block_entered, var_given}
 use Rattle.obq_windows.proofs.Keeps.{CompleteMoved, place_more, vars_kept, zipped_complete}
 use Rattle.obq_windows.proofs.Running.{is_left_out}
 use Rattle.obq_windows.proofs.Starting.{vars_start}
@@ -66,6 +66,10 @@ at_act {R} T S act b op na (TreeAct op2 after) h = record {
   is_after = subst (λ (z : NodeAfter). AfterIs T S act b z after) (sym (ap (after_at na) h.1)) h.2;
 }
 
+abbrev has_a_name : ScopeKind → Bool
+has_a_name NameScope = true
+has_a_name kind = false
+
 abbrev has_no_scope : ScopeKind → Bool
 has_no_scope NoScope = true
 has_no_scope kind = false
@@ -74,6 +78,7 @@ has_no_scope kind = false
 no_scope : {R : Type 0} → (T : Table R) (op : PlainOperation R) (after : TreeAfter R) → kind_of op ≡ NoScope → CompleteAfter T op after → scope_after T after ≡ Const Okay
 no_scope T op TreeHere e l = refl
 no_scope T op (TreeUnder p x bs is) e l = absurd (true_false (ap has_no_scope (sym e ∙ l.1)))
+no_scope T op (TreeScope p x b) e l = absurd (true_false (ap has_no_scope (sym e ∙ l.1)))
 
 -- the scope of a form is that of its operation
 scope_is : {R : Type 0} → (T : Table R) (op : PlainOperation R) (after : TreeAfter R) → CompleteAfter T op after → scope_of (read_operation T op (scope_after T after)) ≡ scope_after T after
@@ -84,6 +89,8 @@ scope_is T (PlainInvoke o x vs) after l = sym (no_scope T (PlainInvoke o x vs) a
 scope_is T (PlainItemOf r i) after l = sym (no_scope T (PlainItemOf r i) after refl l)
 scope_is T (PlainSize r) after l = sym (no_scope T (PlainSize r) after refl l)
 scope_is T (PlainNewArray vs) after l = sym (no_scope T (PlainNewArray vs) after refl l)
+scope_is T (PlainEachSize r) after l = refl
+scope_is T (PlainEachItem r i n) after l = refl
 scope_is T PlainNewCondition after l = sym (no_scope T PlainNewCondition after refl l)
 scope_is T (PlainForkOff f) after l = sym (no_scope T (PlainForkOff f) after refl l)
 scope_is T (PlainRunEngine e f) after l = sym (no_scope T (PlainRunEngine e f) after refl l)
@@ -104,6 +111,7 @@ scope_is T (PlainNewVariable u) after l = refl
 same_kind : {R : Type 0} → (T : Table R) (op p : PlainOperation R) (after : TreeAfter R) → kind_of p ≡ kind_of op → CompleteAfter T op after → CompleteAfter T p after
 same_kind T op p TreeHere e l = e ∙ l
 same_kind T op p (TreeUnder q x bs is) e l = (l.0, e ∙ l.1)
+same_kind T op p (TreeScope q x b) e l = (l.0, e ∙ l.1)
 
 -- what an answer makes of the two windows
 record Answered {R : Type 0} (T : Table R) (S : Store R) (m : NodeMoved R) (t : TreeMoved R) (u : Term R) : Type 0 where
@@ -130,6 +138,21 @@ variable_answered {R} T S g act b ns fs fr k u na (TreeUnder p x bs is) h l v c 
       complete = vars_kept T Silent (with_bound p (bind_of x v ∷ [])) bs is fs (place_more T p (bind_of x v ∷ []) l.0 (c, tt)) k;
       term = sym (whole T fs _ _ _ (vars_start T fs Silent (with_bound p (bind_of x v ∷ [])) bs is).leads) ∙ ap (plug (frames_of T fs)) (sym (var_given T p x v bs is));
     })
+variable_answered {R} T S g act b ns fs fr k u na (TreeScope p x block) h l v c = absurd (true_false (ap has_a_name l.1))
+
+-- an item goes under the name of its `foreach`
+item_answered : {R : Type 0} → (T : Table R) (S : Store R) → Agrees T S → (act : Activation R) (b : ℕ) (ns : List (NodeFrame R)) (fs : List (TreeFrame R)) → FramesAre T S act b ns fs → CompleteFrames T fs → (r : R) (i n : ℕ) (na : NodeAfter) (after : TreeAfter R) → AfterIs T S act b na after → CompleteAfter T (PlainEachItem r i n) after
+    → (v : PlainValue R) → IsComplete T v → Answered T S (value_at_node S (PlainEachItem r i n) na v act ns) (value_at_tree (PlainEachItem r i n) after v fs) (plug (frames_of T fs) (Form (EachIn r i n) (Part (enter (read_value T v ∷ []) (scope_after T after)) (Part (scope_after T after) End))))
+item_answered T S g act b ns fs fr k r i n na TreeHere h l v c = absurd (true_false (ap has_no_scope (sym l)))
+item_answered T S g act b ns fs fr k r i n na (TreeUnder p x bs is) h l v c = absurd (true_false (ap has_a_name (sym l.1)))
+item_answered {R} T S g act b ns fs fr k r i n na (TreeScope p x block) h l v c =
+    subst (λ (z : NodeAfter). Answered T S (value_at_node S (PlainEachItem r i n) z v act ns) (tree_moved Silent (push p (PendingEach r i n x block) fs) (TreeRun (with_bound p (bind_of x v ∷ [])) (BlockTask block))) (plug (frames_of T fs) (Form (EachIn r i n) (Part (enter (read_value T v ∷ []) (scope_at T p x block)) (Part (scope_at T p x block) End))))) (sym h.1)
+    (record {
+      same = subst (λ (z : Place R). Alike T S (node_moved Silent (bind act b (v ∷ [])) (NodeEach r i n h.0 b ∷ ns) (NodeRun h.0 (suc b))) (tree_moved Silent (push z (PendingEach r i n x block) fs) (TreeRun (with_bound z (bind_of x v ∷ [])) (BlockTask block)))) (sym h.2.1)
+          (item_alike T S act b h.2.0 h.2.2 ns fs fr h.0 x block r i n v (subst (λ (z : Place R). StandsAt T S z.code (draft_block (outside_at T z) (names_at z ++ x ∷ []) block) h.0) h.2.1 h.3));
+      complete = record { frames = (l.0, tt, k); focus = place_more T p (bind_of x v ∷ []) l.0 (c, tt) };
+      term = plug_append (frames_of T fs) (pending_frames T p (PendingEach r i n x block)) _ ∙ ap (λ (u : Term R). plug (frames_of T fs) (Form (EachIn r i n) (Part u (Part (scope_at T p x block) End)))) (sym (block_entered T p x v block));
+    })
 
 value_answered : {R : Type 0} → (T : Table R) (S : Store R) → Agrees T S → (act : Activation R) (b : ℕ) (ns : List (NodeFrame R)) (fs : List (TreeFrame R)) → FramesAre T S act b ns fs → CompleteFrames T fs → (op : PlainOperation R) (na : NodeAfter) (after : TreeAfter R) → AfterIs T S act b na after → CompleteAfter T op after
     → (v : PlainValue R) → IsComplete T v → Answered T S (value_at_node S op na v act ns) (value_at_tree op after v fs) (plug (frames_of T fs) (left_by T (read_operation T op (scope_after T after)) (AnswerValue v)))
@@ -141,6 +164,8 @@ value_answered {R} T S g act b ns fs fr k (PlainItemOf r i) na after h l v c = r
 value_answered {R} T S g act b ns fs fr k (PlainSize r) na after h l v c = record { same = record { tag = refl; makes = refl; height = b; frames = fr; focus = refl }; complete = record { frames = k; focus = c }; term = refl }
 value_answered {R} T S g act b ns fs fr k (PlainNewArray vs) na after h l v c = record { same = record { tag = refl; makes = refl; height = b; frames = fr; focus = refl }; complete = record { frames = k; focus = c }; term = refl }
 value_answered {R} T S g act b ns fs fr k PlainNewCondition na after h l v c = record { same = record { tag = refl; makes = refl; height = b; frames = fr; focus = refl }; complete = record { frames = k; focus = c }; term = refl }
+value_answered {R} T S g act b ns fs fr k (PlainEachSize r) na after h l v c = record { same = record { tag = refl; makes = refl; height = b; frames = fr; focus = refl }; complete = record { frames = k; focus = c }; term = refl }
+value_answered T S g act b ns fs fr k (PlainEachItem r i n) na after h l v c = item_answered T S g act b ns fs fr k r i n na after h l v c
 value_answered {R} T S g act b ns fs fr k (PlainForkOff f) na after h l v c = record { same = record { tag = refl; makes = refl; height = b; frames = fr; focus = refl }; complete = record { frames = k; focus = c }; term = refl }
 value_answered {R} T S g act b ns fs fr k (PlainRunEngine e f) na after h l v c = record { same = record { tag = refl; makes = refl; height = b; frames = fr; focus = refl }; complete = record { frames = k; focus = c }; term = refl }
 value_answered {R} T S g act b ns fs fr k (PlainExport x namer u) na after h l v c = record { same = record { tag = refl; makes = refl; height = b; frames = fr; focus = refl }; complete = record { frames = k; focus = c }; term = refl }

@@ -9,12 +9,12 @@ use Rattle.obq_model.specs.Opened.{open_chain, open_expr, open_field, open_suffi
 use Rattle.obq_model.specs.Opening.{linked}
 use Rattle.obq_model.specs.Reading.{read}
 use Rattle.obq_model.specs.Step.{Found, Frame, Needs, Next, Pending, Self, activations_at, fill, find, is_operand, plug, self_at}
-use Rattle.obq_model.specs.Terms.{Assign, Bytes, Called, Choosing, Counting, End, Finally, Finishing, For, Form, If, Kind, Let, Looping, Part, Parts, Raise, SetMethod, Term, Then, Try, Var, Within}
+use Rattle.obq_model.specs.Terms.{Assign, Bytes, Called, Choosing, Counting, EachIn, End, Finally, Finishing, For, Foreach, Form, If, Kind, Let, Looping, Part, Parts, Raise, SetMethod, Term, Then, Try, Var, Within}
 use Rattle.obq_model.proofs.Plug.{frames_append, needs_plug, plug_append, step_plug}
 use Rattle.obq_windows.specs.Meanings.{Means, Moves}
 use Rattle.obq_windows.specs.Moves.{with_links, with_suffixes}
 use Rattle.obq_windows.specs.Places.{Place, env_at, outside_at, writer_at}
-use Rattle.obq_windows.specs.Trees.{Asks, Callee, PendingArguments, PendingAssign, PendingCalled, PendingChain, PendingCount, PendingField, PendingFirst, PendingForm, PendingGuard, PendingHead, PendingIf, PendingKept, PendingLast, PendingLet, PendingLoop, PendingRaise, PendingRight, PendingThen, PendingTo, PendingTry, PendingVar, PendingWithin, PlainOperation, Silent, Stepped, Tag, ToArray, ToBuiltin, ToCall, ToIndex, ToInvoke, ToRedirect, ToSetAlias, ToSetIndex, ToSetValue, TreeAct, TreeAfter, TreeFocus, TreeFrame, TreeMoved, callee_frame, expr_at, exprs_at, field_frame, focus_term, frames_of, link_frame, linked_kind, links_around, names_at, pending_frames, push, read_operation, scope_after, suffix_frame, suffixes_around, term_of, tree_moved}
+use Rattle.obq_windows.specs.Trees.{Asks, Callee, PendingArguments, PendingAssign, PendingCalled, PendingChain, PendingCount, PendingEach, PendingField, PendingFirst, PendingForeach, PendingForm, PendingGuard, PendingHead, PendingIf, PendingKept, PendingLast, PendingLet, PendingLoop, PendingRaise, PendingRight, PendingThen, PendingTo, PendingTry, PendingVar, PendingWithin, PlainOperation, Silent, Stepped, Tag, ToArray, ToBuiltin, ToCall, ToIndex, ToInvoke, ToRedirect, ToSetAlias, ToSetIndex, ToSetValue, TreeAct, TreeAfter, TreeFocus, TreeFrame, TreeMoved, callee_frame, expr_at, exprs_at, field_frame, focus_term, frames_of, link_frame, linked_kind, links_around, names_at, pending_frames, push, read_operation, scope_after, suffix_frame, suffixes_around, term_of, tree_moved}
 use Rattle.obq_windows.specs.Values.{PlainValue, Table}
 
 -- a frame whose hole is its first part
@@ -87,6 +87,8 @@ pend_are_frames {R} T p (PendingLoop b) = (first_hole {R = R} Looping End refl, 
 pend_are_frames {R} T p (PendingFirst x e b) = (first_hole {R = R} For End refl, tt)
 pend_are_frames T p (PendingTo first x b) = (λ i l. below_two i l, tt)
 pend_are_frames {R} T p (PendingCount i n x b) = (first_hole {R = R} (Counting i n) End refl, tt)
+pend_are_frames {R} T p (PendingForeach x b) = (first_hole {R = R} Foreach End refl, tt)
+pend_are_frames {R} T p (PendingEach r i n x b) = (first_hole {R = R} (EachIn r i n) End refl, tt)
 
 pub are_frames : {R : Type 0} → (T : Table R) (fs : List (TreeFrame R)) → AreFrames (frames_of T fs)
 are_frames T [] = tt

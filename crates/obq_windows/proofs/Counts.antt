@@ -8,7 +8,7 @@ use Rattle.obq_model.specs.Terms.{Bytes}
 use Rattle.obq_model.proofs.Plug.{activations_append}
 use Rattle.obq_windows.specs.Moves.{count_activations, is_activation}
 use Rattle.obq_windows.specs.Places.{Place}
-use Rattle.obq_windows.specs.Trees.{PendingArguments, PendingAssign, PendingCalled, PendingChain, PendingCount, PendingField, PendingFirst, PendingForm, PendingGuard, PendingHead, PendingIf, PendingKept, PendingLast, PendingLet, PendingLoop, PendingRaise, PendingRight, PendingThen, PendingTo, PendingTry, PendingVar, PendingWithin, ToArray, ToBuiltin, ToCall, ToIndex, ToInvoke, ToRedirect, ToSetAlias, ToSetIndex, ToSetValue, TreeFrame, field_frame, frames_of, link_frame, links_around, pending_frames, suffix_frame, suffixes_around}
+use Rattle.obq_windows.specs.Trees.{PendingArguments, PendingAssign, PendingCalled, PendingChain, PendingCount, PendingEach, PendingField, PendingFirst, PendingForeach, PendingForm, PendingGuard, PendingHead, PendingIf, PendingKept, PendingLast, PendingLet, PendingLoop, PendingRaise, PendingRight, PendingThen, PendingTo, PendingTry, PendingVar, PendingWithin, ToArray, ToBuiltin, ToCall, ToIndex, ToInvoke, ToRedirect, ToSetAlias, ToSetIndex, ToSetValue, TreeFrame, field_frame, frames_of, link_frame, links_around, pending_frames, suffix_frame, suffixes_around}
 use Rattle.obq_windows.specs.Values.{Table}
 
 count_links : {R : Type 0} → (T : Table R) (a : ℕ) (p : Place R) (links : LinkTrees) → activations_at a (links_around T p links) ≡ a
@@ -64,6 +64,8 @@ count_pend T a p (PendingLoop b) = refl
 count_pend T a p (PendingFirst x e b) = refl
 count_pend T a p (PendingTo first x b) = refl
 count_pend T a p (PendingCount i n x b) = refl
+count_pend T a p (PendingForeach x b) = refl
+count_pend T a p (PendingEach r i n x b) = refl
 
 pub counted : {R : Type 0} → (T : Table R) (a : ℕ) (fs : List (TreeFrame R)) → activations_at a (frames_of T fs) ≡ count_activations a fs
 counted T a [] = refl

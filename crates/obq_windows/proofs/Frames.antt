@@ -6,9 +6,9 @@ use Rattle.obq_base.specs.Tree.{AnItem, NoItems}
 use Rattle.obq_model.specs.Effect.{kept}
 use Rattle.obq_windows.specs.Agrees.{FrameIs, FramesAre, IsBound, PlaceIs, act_behind, height_behind}
 use Rattle.obq_windows.specs.Places.{Bound, Place, bound_values}
-use Rattle.obq_windows.specs.Trees.{PendingArguments, PendingAssign, PendingCalled, PendingChain, PendingCount, PendingField, PendingFirst, PendingForm, PendingGuard, PendingHead, PendingIf, PendingKept, PendingLast, PendingLet, PendingLoop, PendingRaise, PendingRight, PendingThen, PendingTo, PendingTry, PendingVar, PendingWithin, TreeFrame}
+use Rattle.obq_windows.specs.Trees.{PendingArguments, PendingAssign, PendingCalled, PendingChain, PendingCount, PendingEach, PendingField, PendingFirst, PendingForeach, PendingForm, PendingGuard, PendingHead, PendingIf, PendingKept, PendingLast, PendingLet, PendingLoop, PendingRaise, PendingRight, PendingThen, PendingTo, PendingTry, PendingVar, PendingWithin, TreeFrame}
 use Rattle.obq_windows.specs.Values.{PlainValue, Table}
-use Rattle.obq_windows.specs.Windows.{Activation, NodeArguments, NodeAssign, NodeCalled, NodeChain, NodeCount, NodeField, NodeFirst, NodeFrame, NodeGuard, NodeHead, NodeIf, NodeKept, NodeLast, NodeLet, NodeLoop, NodeRaise, NodeRight, NodeThen, NodeTo, NodeTry, NodeVar, NodeWithin, Store, bind}
+use Rattle.obq_windows.specs.Windows.{Activation, NodeArguments, NodeAssign, NodeCalled, NodeChain, NodeCount, NodeEach, NodeField, NodeFirst, NodeForeach, NodeFrame, NodeGuard, NodeHead, NodeIf, NodeKept, NodeLast, NodeLet, NodeLoop, NodeRaise, NodeRight, NodeThen, NodeTo, NodeTry, NodeVar, NodeWithin, Store, bind}
 
 -- ---- more binders in force
 
@@ -38,6 +38,8 @@ frame_up T S act b c f p (PendingLoop block) l h = (h.0, h.1, h.2, at_most _ b c
 frame_up T S act b c f p (PendingFirst x e block) l h = (h.0, h.1, h.2, at_most _ b c h.3 l, h.4, h.5)
 frame_up T S act b c f p (PendingTo first x block) l h = (h.0, h.1, h.2, at_most _ b c h.3 l, h.4, h.5)
 frame_up T S act b c f p (PendingCount i n x block) l h = (h.0, h.1, h.2, at_most _ b c h.3 l, h.4, h.5)
+frame_up T S act b c f p (PendingEach r i n x block) l h = (h.0, h.1, h.2, at_most _ b c h.3 l, h.4, h.5)
+frame_up T S act b c f p (PendingForeach x block) l h = (h.0, h.1, h.2, at_most _ b c h.3 l, h.4, h.5)
 
 heights : {R : Type 0} → (b c : ℕ) (f : NodeFrame R) → (height_behind b f ≡ height_behind c f) ⊎ ((height_behind b f ≡ b) × (c ≡ height_behind c f))
 heights b c (NodeThen at left h) = inl refl
@@ -61,6 +63,8 @@ heights b c (NodeField x child h) = inl refl
 heights b c (NodeFirst child h) = inl refl
 heights b c (NodeTo first child h) = inl refl
 heights b c (NodeCount i n child h) = inl refl
+heights b c (NodeEach r i n child h) = inl refl
+heights b c (NodeForeach child h) = inl refl
 
 pub frames_up : {R : Type 0} → (T : Table R) (S : Store R) (act : Activation R) (b c : ℕ) (ns : List (NodeFrame R)) (fs : List (TreeFrame R)) → b ≤ c → FramesAre T S act b ns fs → FramesAre T S act c ns fs
 frames_up T S act b c ns [] l h = h
@@ -117,6 +121,8 @@ frame_kept T S act b h vs f p (PendingLoop block) l k = (k.0, k.1, k.2, k.3, pla
 frame_kept T S act b h vs f p (PendingFirst x e block) l k = (k.0, k.1, k.2, k.3, place_kept act _ h vs p (at_most _ b h k.3 l) k.4, k.5)
 frame_kept T S act b h vs f p (PendingTo first x block) l k = (k.0, k.1, k.2, k.3, place_kept act _ h vs p (at_most _ b h k.3 l) k.4, k.5)
 frame_kept T S act b h vs f p (PendingCount i n x block) l k = (k.0, k.1, k.2, k.3, place_kept act _ h vs p (at_most _ b h k.3 l) k.4, k.5)
+frame_kept T S act b h vs f p (PendingEach r i n x block) l k = (k.0, k.1, k.2, k.3, place_kept act _ h vs p (at_most _ b h k.3 l) k.4, k.5)
+frame_kept T S act b h vs f p (PendingForeach x block) l k = (k.0, k.1, k.2, k.3, place_kept act _ h vs p (at_most _ b h k.3 l) k.4, k.5)
 
 -- behind a frame of the same activation no more binders are in force
 frame_low : {R : Type 0} → (T : Table R) (S : Store R) (act : Activation R) (b : ℕ) (f : NodeFrame R) (p : Place R) (pending : PendingForm R) → FrameIs T S act b f p pending → (height_behind b f ≤ b) ⊎ ((z : Activation R) → act_behind act f ≡ act_behind z f)
@@ -142,6 +148,8 @@ frame_low {R} T S act b f p (PendingLoop block) k = inl (subst (λ (z : NodeFram
 frame_low {R} T S act b f p (PendingFirst x e block) k = inl (subst (λ (z : NodeFrame R). height_behind b z ≤ b) (sym k.2) k.3)
 frame_low {R} T S act b f p (PendingTo first x block) k = inl (subst (λ (z : NodeFrame R). height_behind b z ≤ b) (sym k.2) k.3)
 frame_low {R} T S act b f p (PendingCount i n x block) k = inl (subst (λ (z : NodeFrame R). height_behind b z ≤ b) (sym k.2) k.3)
+frame_low {R} T S act b f p (PendingEach r i n x block) k = inl (subst (λ (z : NodeFrame R). height_behind b z ≤ b) (sym k.2) k.3)
+frame_low {R} T S act b f p (PendingForeach x block) k = inl (subst (λ (z : NodeFrame R). height_behind b z ≤ b) (sym k.2) k.3)
 
 acts : {R : Type 0} → (act : Activation R) (h : ℕ) (vs : List (PlainValue R)) (f : NodeFrame R) → ((act_behind act f ≡ act) × (bind act h vs ≡ act_behind (bind act h vs) f)) ⊎ (act_behind act f ≡ act_behind (bind act h vs) f)
 acts act h vs (NodeThen at left hh) = inl (refl, refl)
@@ -165,6 +173,8 @@ acts act h vs (NodeField x child hh) = inl (refl, refl)
 acts act h vs (NodeFirst child hh) = inl (refl, refl)
 acts act h vs (NodeTo first child hh) = inl (refl, refl)
 acts act h vs (NodeCount i n child hh) = inl (refl, refl)
+acts act h vs (NodeEach r i n child hh) = inl (refl, refl)
+acts act h vs (NodeForeach child hh) = inl (refl, refl)
 
 pub frames_kept : {R : Type 0} → (T : Table R) (S : Store R) (act : Activation R) (b h : ℕ) (vs : List (PlainValue R)) (ns : List (NodeFrame R)) (fs : List (TreeFrame R)) → b ≤ h → FramesAre T S act b ns fs → FramesAre T S (bind act h vs) b ns fs
 frames_kept T S act b h vs ns [] l k = k
@@ -238,6 +248,8 @@ frame_full T S act b f p (PendingLoop block) h = (h.0, h.1, h.2, in_force act _ 
 frame_full T S act b f p (PendingFirst x e block) h = (h.0, h.1, h.2, in_force act _ h.4.0 h.4.2, h.4, h.5)
 frame_full T S act b f p (PendingTo first x block) h = (h.0, h.1, h.2, in_force act _ h.4.0 h.4.2, h.4, h.5)
 frame_full T S act b f p (PendingCount i n x block) h = (h.0, h.1, h.2, in_force act _ h.4.0 h.4.2, h.4, h.5)
+frame_full T S act b f p (PendingEach r i n x block) h = (h.0, h.1, h.2, in_force act _ h.4.0 h.4.2, h.4, h.5)
+frame_full T S act b f p (PendingForeach x block) h = (h.0, h.1, h.2, in_force act _ h.4.0 h.4.2, h.4, h.5)
 
 heights_in : {R : Type 0} → (act : Activation R) (b c : ℕ) (f : NodeFrame R) → (height_behind b f ≡ height_behind c f) ⊎ ((height_behind b f ≡ b) × (c ≡ height_behind c f) × (act_behind act f ≡ act))
 heights_in act b c (NodeThen at left h) = inl refl
@@ -261,6 +273,8 @@ heights_in act b c (NodeField x child h) = inl refl
 heights_in act b c (NodeFirst child h) = inl refl
 heights_in act b c (NodeTo first child h) = inl refl
 heights_in act b c (NodeCount i n child h) = inl refl
+heights_in act b c (NodeEach r i n child h) = inl refl
+heights_in act b c (NodeForeach child h) = inl refl
 
 pub frames_full : {R : Type 0} → (T : Table R) (S : Store R) (act : Activation R) (b : ℕ) (ns : List (NodeFrame R)) (fs : List (TreeFrame R)) → FramesAre T S act b ns fs → FramesAre T S act (length act.locals) ns fs
 frames_full T S act b ns [] h = h

@@ -1,5 +1,5 @@
 -- A value in the innermost frame.
-use Rattle.std.specs.Prelude.{Bool, List, [], bytes_eq, codes, false, if◌then◌else◌, int_lt, pos, refl, true, ℕ, ℤ, ◌++◌, ◌+ℤ◌, ◌∷◌, ◌≡◌}
+use Rattle.std.specs.Prelude.{Bool, List, [], bytes_eq, codes, false, if◌then◌else◌, int_lt, pos, refl, suc, true, ℕ, ℤ, ◌++◌, ◌+ℤ◌, ◌∷◌, ◌≡◌}
 use Rattle.std.proofs.Common.{ap, arith, sym, ◌∙◌}
 use Rattle.std.proofs.lemmas.Int.{ints}
 use Rattle.std.proofs.lemmas.List.{append_assoc}
@@ -10,14 +10,14 @@ use Rattle.obq_model.specs.Opened.{builtin_at, open_binds, open_block, open_item
 use Rattle.obq_model.specs.Put.{enter}
 use Rattle.obq_model.specs.Reading.{Env, hide, read}
 use Rattle.obq_model.specs.Step.{Frame, Next, Self, activations_at, choose, counting, fill, find, find_part, plug, self_at, values_before}
-use Rattle.obq_model.specs.Terms.{AndIf, Apply, Array, Bytes, Call, Choosing, Condition, Const, Counting, End, Engine, Exc, For, Form, Held, If, Index, Inner, Int, Invoke, Kind, Let, MakeArray, Mode, Object, Okay, OrIf, Part, Parts, Plain, Raise, Redirect, Select, SetAlias, SetIndex, SetValue, Term, Truth, Try, Under, Value, Var, Variable, Within, Writer}
+use Rattle.obq_model.specs.Terms.{AndIf, Apply, Array, Bytes, Call, Choosing, Condition, Const, Counting, End, Engine, Exc, For, Foreach, Form, Held, If, Index, Inner, Int, Invoke, Kind, Let, MakeArray, Mode, Object, Okay, OrIf, Part, Parts, Plain, Raise, Redirect, Select, SetAlias, SetIndex, SetValue, Term, Truth, Try, Under, Value, Var, Variable, Within, Writer}
 use Rattle.obq_model.proofs.Plug.{plug_append}
 use Rattle.obq_model.proofs.PutRead.{put_read}
 use Rattle.obq_windows.specs.Meanings.{Moves}
-use Rattle.obq_windows.specs.Moves.{begin_args, begin_arms, begin_binds, begin_count, begin_if, begin_rest, count_activations, count_at, give_and, give_field, give_guard, give_if, give_left, give_or, give_pending, give_raise, give_suffix, give_to, going_on, leave_tree, next_count, target_value, tree_result, with_links, with_suffixes}
+use Rattle.obq_windows.specs.Moves.{begin_args, begin_arms, begin_binds, begin_count, begin_if, begin_rest, count_activations, count_at, give_and, give_field, give_foreach, give_guard, give_if, give_left, give_or, give_pending, give_raise, give_suffix, give_to, going_on, leave_tree, next_count, target_value, tree_result, with_links, with_suffixes}
 use Rattle.obq_windows.specs.Places.{Place, bind_of, env_at, outside_at, with_bound, writer_at}
 use Rattle.obq_windows.specs.Results.{assigned, operated}
-use Rattle.obq_windows.specs.Trees.{Asks, BlockTask, Callee, ExprTask, Kept, KeptRaising, KeptValue, PendingArguments, PendingAssign, PendingCalled, PendingChain, PendingCount, PendingField, PendingFirst, PendingForm, PendingGuard, PendingHead, PendingIf, PendingKept, PendingLast, PendingLet, PendingLoop, PendingRaise, PendingRight, PendingThen, PendingTo, PendingTry, PendingVar, PendingWithin, PlainGet, PlainLeave, PlainNewVariable, Silent, Stepped, ToArray, ToBuiltin, ToCall, ToIndex, ToInvoke, ToRedirect, ToSetAlias, ToSetIndex, ToSetValue, TreeAct, TreeFrame, TreeHere, TreeRaising, TreeRun, TreeUnder, TreeUnmet, TreeValue, arms_at, block_at, callee_frame, expr_at, exprs_at, field_frame, frames_of, if_at, kept_term, let_at, link_frame, linked_kind, links_around, names_at, pending_frames, push, scope_at, suffix_frame, suffixes_around, tree_moved, tree_raises, vars_at}
+use Rattle.obq_windows.specs.Trees.{Asks, BlockTask, Callee, ExprTask, Kept, KeptRaising, KeptValue, PendingArguments, PendingAssign, PendingCalled, PendingChain, PendingCount, PendingEach, PendingField, PendingFirst, PendingForeach, PendingForm, PendingGuard, PendingHead, PendingIf, PendingKept, PendingLast, PendingLet, PendingLoop, PendingRaise, PendingRight, PendingThen, PendingTo, PendingTry, PendingVar, PendingWithin, PlainEachItem, PlainEachSize, PlainGet, PlainLeave, PlainNewVariable, Silent, Stepped, ToArray, ToBuiltin, ToCall, ToIndex, ToInvoke, ToRedirect, ToSetAlias, ToSetIndex, ToSetValue, TreeAct, TreeFrame, TreeHere, TreeRaising, TreeRun, TreeScope, TreeUnder, TreeUnmet, TreeValue, arms_at, block_at, callee_frame, expr_at, exprs_at, field_frame, frames_of, if_at, kept_term, let_at, link_frame, linked_kind, links_around, names_at, pending_frames, push, scope_at, suffix_frame, suffixes_around, tree_moved, tree_raises, vars_at}
 use Rattle.obq_windows.specs.Values.{ClosureValue, ExceptionValue, IntValue, IsMadeTable, LocationValue, OkayValue, PlainValue, Table, TextValue, ThreadValue, TruthValue, proc_of, read_all, read_value, read_values}
 use Rattle.obq_windows.proofs.Around.{asks, found_in, links_frames, pushed, silent, stepped, suffixes_frames, to_here, to_pushed}
 use Rattle.obq_windows.proofs.Begins.{args_right, callee_form, of_term, result_right, suffix_args}
@@ -158,7 +158,7 @@ try_value eq a s v End = refl
 try_value eq a s v (Part t ts) = refl
 
 -- a `for` from a number on
-block_entered : {R : Type 0} → (T : Table R) (p : Place R) (x : Bytes) (v : PlainValue R) (b : BlockTree) → enter (read_value T v ∷ []) (scope_at T p x b) ≡ block_at T (with_bound p (bind_of x v ∷ [])) b
+pub block_entered : {R : Type 0} → (T : Table R) (p : Place R) (x : Bytes) (v : PlainValue R) (b : BlockTree) → enter (read_value T v ∷ []) (scope_at T p x b) ≡ block_at T (with_bound p (bind_of x v ∷ [])) b
 block_entered {R} T p x v b =
     put_read (open_block (writer_at T p) (outside_at T p) (names_at p ++ x ∷ []) b) (hide (x ∷ []) (env_at T p)) (read_value T v) x
     ∙ ap (λ (env : Env R). read env (open_block (writer_at T p) (outside_at T p) (names_at p ++ x ∷ []) b)) (bound_more T p x v)
@@ -224,6 +224,22 @@ left_right eq T a s o Held (KeptRaising r) fs = asks eq T a s fs _ (PlainLeave o
 left_right eq T a s o Inner (KeptValue v) fs = to_here eq T a s fs _ (TreeValue v) refl
 left_right eq T a s o Inner (KeptRaising r) fs = to_here eq T a s fs _ (TreeRaising r) refl
 
+foreach_given : {R : Type 0} → (eq : R → R → Bool) (T : Table R) (a : ℕ) (s : Self R) (v : PlainValue R) (p : Place R) (x : Bytes) (b : BlockTree) (fs : List (TreeFrame R))
+    → Moves eq T a s (plug (frames_of T fs) (Form Foreach (Part (Const (read_value T v)) (Part (scope_at T p x b) End)))) (give_foreach v p x b fs)
+foreach_given eq T a s (IntValue z) p x b fs = to_here eq T a s fs _ (tree_raises (codes "type")) refl
+foreach_given eq T a s (TruthValue z) p x b fs = to_here eq T a s fs _ (tree_raises (codes "type")) refl
+foreach_given eq T a s OkayValue p x b fs = to_here eq T a s fs _ (tree_raises (codes "type")) refl
+foreach_given eq T a s (TextValue z) p x b fs = to_here eq T a s fs _ (tree_raises (codes "type")) refl
+foreach_given eq T a s (ExceptionValue z) p x b fs = to_here eq T a s fs _ (tree_raises (codes "type")) refl
+foreach_given eq T a s (ThreadValue z) p x b fs = to_here eq T a s fs _ (tree_raises (codes "type")) refl
+foreach_given eq T a s (LocationValue Object z) p x b fs = to_here eq T a s fs _ (tree_raises (codes "type")) refl
+foreach_given eq T a s (LocationValue Variable z) p x b fs = to_here eq T a s fs _ (tree_raises (codes "type")) refl
+foreach_given eq T a s (LocationValue Writer z) p x b fs = to_here eq T a s fs _ (tree_raises (codes "type")) refl
+foreach_given eq T a s (LocationValue Condition z) p x b fs = to_here eq T a s fs _ (tree_raises (codes "type")) refl
+foreach_given eq T a s (LocationValue Engine z) p x b fs = to_here eq T a s fs _ (tree_raises (codes "type")) refl
+foreach_given eq T a s (LocationValue Array r) p x b fs = asks eq T a s fs _ (PlainEachSize r) (TreeScope p x b) refl
+foreach_given eq T a s (ClosureValue t c group index cs) p x b fs = to_here eq T a s fs _ (tree_raises (codes "type")) (closure_cases T (read_values T cs) (proc_of T group index) (λ f. find eq (activations_at a (frames_of T fs)) (self_at s (frames_of T fs)) (Form Foreach (Part (Const f) (Part (scope_at T p x b) End))) ≡ Next (wrong_type)) (λ params body. refl) (λ names G i. refl))
+
 field_given : {R : Type 0} → (eq : R → R → Bool) (T : Table R) (a : ℕ) (s : Self R) → IsMadeTable T → (v : PlainValue R) (p : Place R) (x : Bytes) (body : FieldTree) (fs : List (TreeFrame R))
     → Moves eq T a s (plug (frames_of T fs) (fill (field_frame T p x body) (Const (read_value T v)))) (give_field T (count_activations a fs) v p x body fs)
 field_given eq T a s w v p x (ValueOf e) fs = args_right eq T a s w fs (ToSetValue x) p (v ∷ []) (AnExpr e NoExprs)
@@ -273,4 +289,6 @@ given eq T a s w v p (PendingField x body) fs = of_term eq T a s _ _ (give_field
 given eq T a s w v p (PendingFirst x n b) fs = of_term eq T a s _ _ (tree_moved Silent (push p (PendingTo v x b) fs) (TreeRun p (ExprTask n))) (one_frame T fs _ _) (silent eq T a s fs _ (tree_moved Silent (push p (PendingTo v x b) fs) (TreeRun p (ExprTask n))) (record { tag_is = refl; leads = pushed T fs p (PendingTo v x b) (TreeRun p (ExprTask n)) _ refl }))
 given eq T a s w v p (PendingTo first x b) fs = of_term eq T a s _ _ (give_to first v p x b fs) (one_frame T fs _ _) (to_given eq T a s first v p x b fs)
 given eq T a s w v p (PendingCount i n x b) fs = of_term eq T a s _ _ (next_count p i n x b fs) (one_frame T fs _ _) (next_right eq T a s fs _ p i n x b refl)
+given eq T a s w v p (PendingForeach x b) fs = of_term eq T a s _ _ (give_foreach v p x b fs) (one_frame T fs _ _) (foreach_given eq T a s v p x b fs)
+given eq T a s w v p (PendingEach r i n x b) fs = of_term eq T a s _ _ (tree_moved Stepped fs (TreeAct (PlainEachItem r (suc i) n) (TreeScope p x b))) (one_frame T fs _ _) (to_here eq T a s fs _ (TreeAct (PlainEachItem r (suc i) n) (TreeScope p x b)) refl)
 given eq T a s w v p (PendingLoop b) fs = of_term eq T a s _ _ (tree_moved Stepped (push p (PendingLoop b) fs) (TreeRun p (BlockTask b))) (one_frame T fs _ _) (to_pushed eq T a s fs _ p (PendingLoop b) (TreeRun p (BlockTask b)) refl)
