@@ -80,7 +80,7 @@ agree = record {
 -- five pure steps, and the window is at its bottom
 ran : Ran ℕ
 unfolding store nodes end_of
-ran = run_nodes same_loc store 0 0 40 0 (activation_of (record { source = 0; n = 0 }) 0 0 [] NoValues []) [] (NodeRun 0 0)
+ran = run_nodes same_loc store 0 no_self 0 40 0 (activation_of (record { source = 0; n = 0 }) 0 0 [] NoValues []) [] (NodeRun 0 0)
 
 five : ran.steps ≡ 5
 unfolding ran store nodes end_of

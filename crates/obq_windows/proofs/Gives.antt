@@ -14,7 +14,7 @@ use Rattle.obq_model.specs.Terms.{AndIf, Apply, Array, Bytes, Call, Choosing, Co
 use Rattle.obq_model.proofs.Plug.{plug_append}
 use Rattle.obq_model.proofs.PutRead.{put_read}
 use Rattle.obq_windows.specs.Meanings.{Moves}
-use Rattle.obq_windows.specs.Moves.{begin_args, begin_arms, begin_binds, begin_count, begin_if, begin_rest, count_activations, count_at, give_and, give_field, give_foreach, give_guard, give_if, give_left, give_or, give_pending, give_raise, give_suffix, give_to, going_on, leave_tree, next_count, target_value, tree_result, with_links, with_suffixes}
+use Rattle.obq_windows.specs.Moves.{begin_args, begin_arms, begin_binds, begin_count, begin_if, begin_rest, count_activations, count_at, give_and, give_field, give_foreach, give_guard, give_if, give_left, give_or, give_pending, give_raise, give_suffix, give_to, going_on, leave_tree, next_count, target_value, tree_result, tree_self, with_links, with_suffixes}
 use Rattle.obq_windows.specs.Places.{Place, bind_of, env_at, outside_at, with_bound, writer_at}
 use Rattle.obq_windows.specs.Results.{assigned, operated}
 use Rattle.obq_windows.specs.Trees.{Asks, BlockTask, Callee, ExprTask, Kept, KeptRaising, KeptValue, PendingArguments, PendingAssign, PendingCalled, PendingChain, PendingCount, PendingEach, PendingField, PendingFirst, PendingForeach, PendingForm, PendingGuard, PendingHead, PendingIf, PendingKept, PendingLast, PendingLet, PendingLoop, PendingRaise, PendingRight, PendingThen, PendingTo, PendingTry, PendingVar, PendingWithin, PlainEachItem, PlainEachSize, PlainGet, PlainLeave, PlainNewVariable, Silent, Stepped, ToArray, ToBuiltin, ToCall, ToIndex, ToInvoke, ToRedirect, ToSetAlias, ToSetIndex, ToSetValue, TreeAct, TreeFrame, TreeHere, TreeRaising, TreeRun, TreeScope, TreeUnder, TreeUnmet, TreeValue, arms_at, block_at, callee_frame, expr_at, exprs_at, field_frame, frames_of, if_at, kept_term, let_at, link_frame, linked_kind, links_around, names_at, pending_frames, push, scope_at, suffix_frame, suffixes_around, tree_moved, tree_raises, vars_at}
@@ -248,7 +248,7 @@ field_given eq T a s w v p x (MethodOf q) fs = tt
 
 -- a value in a frame
 pub given : {R : Type 0} → (eq : R → R → Bool) (T : Table R) (a : ℕ) (s : Self R) → IsMadeTable T → (v : PlainValue R) (p : Place R) (pending : PendingForm R) (fs : List (TreeFrame R))
-    → Moves eq T a s (plug (frames_of T fs ++ pending_frames T p pending) (Const (read_value T v))) (give_pending eq T (count_activations a fs) v p pending fs)
+    → Moves eq T a s (plug (frames_of T fs ++ pending_frames T p pending) (Const (read_value T v))) (give_pending eq T (count_activations a fs) (tree_self s fs) v p pending fs)
 given eq T a s w v p (PendingThen is) fs = of_term eq T a s _ _ (begin_rest Stepped p is fs) (one_frame T fs _ _) (stepped eq T a s fs _ _ (begin_rest Stepped p is fs) refl (rest_starts T fs Stepped p is))
 given eq T a s w v p (PendingLet x bs is) fs =
     of_term eq T a s _ _ (begin_binds Stepped (with_bound p (bind_of x v ∷ [])) bs is fs) (one_frame T fs _ _)

@@ -25,6 +25,7 @@ pub mod Raises
 pub mod Recursion
 pub mod Results
 pub mod Running
+pub mod Selves
 pub mod Slots
 pub mod Starting
 pub mod Updates

@@ -68,7 +68,7 @@ store = store_of parts (λ number at. length (nodes_of (code_at parts number)) -
 
 ran : Ran ℕ
 unfolding store parts main_nodes body_nodes number_of_f
-ran = run_nodes same_loc store 0 0 100 0 (activation_of (record { source = 0; n = 0 }) 0 0 [] NoValues []) [] (NodeRun 0 0)
+ran = run_nodes same_loc store 0 no_self 0 100 0 (activation_of (record { source = 0; n = 0 }) 0 0 [] NoValues []) [] (NodeRun 0 0)
 
 bottom : ran.stop ≡ AtBottom
 unfolding ran store parts main_nodes body_nodes number_of_f
