@@ -11,7 +11,7 @@ use Rattle.obq_model.proofs.Among.{true_false}
 use Rattle.obq_model.proofs.Plug.{needs_plug, operands, step_plug}
 use Rattle.obq_windows.specs.Meanings.{Moves}
 use Rattle.obq_windows.specs.Moves.{act_ends, count_activations, tree_act, with_a_parameter, without_parameter}
-use Rattle.obq_windows.specs.Trees.{Kept, KeptRaising, KeptValue, PlainBroadcast, PlainEachItem, PlainEachSize, PlainExport, PlainForkOff, PlainGet, PlainImport, PlainInvoke, PlainItemOf, PlainJoin, PlainLeave, PlainNewArray, PlainNewCondition, PlainNewEngine, PlainNewVariable, PlainOperation, PlainRead, PlainRedirect, PlainRunEngine, PlainSetAlias, PlainSetItem, PlainSetValue, PlainSetVariable, PlainSignal, PlainSize, PlainWrite, TreeAct, TreeAfter, TreeFrame, TreeRaising, TreeValue, act_form, frames_of, kept_term, read_operation, scope_after, term_of}
+use Rattle.obq_windows.specs.Trees.{Kept, KeptRaising, KeptValue, PlainAgain, PlainBroadcast, PlainEachItem, PlainEachSize, PlainExport, PlainForkOff, PlainGet, PlainGiveUp, PlainImport, PlainInvoke, PlainItemOf, PlainJoin, PlainLeave, PlainLineUp, PlainNewArray, PlainNewCondition, PlainNewEngine, PlainNewVariable, PlainOperation, PlainRead, PlainRedirect, PlainRunEngine, PlainSetAlias, PlainSetItem, PlainSetValue, PlainSetVariable, PlainSignal, PlainSize, PlainWrite, TreeAct, TreeAfter, TreeFrame, TreeRaising, TreeValue, act_form, frames_of, kept_term, read_operation, scope_after, term_of}
 use Rattle.obq_windows.specs.Values.{IsMadeTable, OkayValue, Table, read_all, read_value, tree_params}
 use Rattle.obq_windows.proofs.Around.{are_frames, asks, found_in, to_here}
 use Rattle.obq_windows.proofs.Calls.{length_read, value_params}
@@ -68,6 +68,9 @@ act_is eq T w a s (PlainImport x namer true) scope = refl
 act_is eq T w a s (PlainImport x namer false) scope = refl
 act_is eq T w a s (PlainNewEngine x namer v) scope = refl
 act_is eq T w a s (PlainEachSize r) scope = refl
+act_is eq T w a s (PlainLineUp o c) scope = refl
+act_is eq T w a s (PlainGiveUp o c) scope = refl
+act_is eq T w a s (PlainAgain o c) scope = refl
 act_is {R} eq T w a s (PlainEachItem r i n) scope = at (i == n) where
   at : (c : Bool) → ActIs T (PlainEachItem r i n) scope (if c then Next (Const Okay) else Needs (EachItem r i n scope) []) (if c then Some (KeptValue OkayValue) else None)
   at true = refl

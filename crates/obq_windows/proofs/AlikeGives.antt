@@ -9,15 +9,16 @@ use Rattle.obq_model.specs.CodeLaws.{nodes_of}
 use Rattle.obq_model.specs.Draft.{Both, captured_by, count_arms, count_binds, count_exprs, count_items, count_suffixes, draft_arms, draft_binds, draft_block, draft_expr, draft_field, draft_items, draft_links, draft_maybe, draft_suffix, draft_suffixes, has_block, operators_of}
 use Rattle.obq_model.specs.Occurrences.{bind_names}
 use Rattle.obq_model.specs.Scopes.{slots_of}
+use Rattle.obq_model.specs.Step.{Self}
 use Rattle.obq_model.specs.Terms.{Apply, Array, Bytes, Condition, Engine, Held, Index, Inner, Invoke, Mode, Object, Plain, Select, Variable, Writer}
 use Rattle.obq_model.proofs.Among.{true_false}
 use Rattle.obq_model.proofs.Drafted.{drafted_block, drafted_expr, drafted_suffix}
 use Rattle.obq_windows.specs.Agrees.{Agrees, Alike, FramesAre, IsBound, Same, StandsAt, place_at}
-use Rattle.obq_windows.specs.Moves.{begin_args, begin_arms, begin_binds, begin_count, begin_vars, count_at, give_and, give_field, give_foreach, give_guard, give_if, give_left, give_or, give_raise, give_suffix, give_to, leave_tree, next_count, with_links, with_suffixes}
+use Rattle.obq_windows.specs.Moves.{begin_args, begin_arms, begin_binds, begin_count, begin_vars, begin_watch, count_at, give_and, give_field, give_foreach, give_guard, give_if, give_left, give_or, give_raise, give_suffix, give_testing, give_to, give_watch, leave_tree, next_count, with_links, with_suffixes}
 use Rattle.obq_windows.specs.Places.{Bound, bind_of, bound_names, outside_at, with_bound}
-use Rattle.obq_windows.specs.Trees.{Asks, BlockTask, ExprTask, Kept, KeptRaising, KeptValue, PendingChain, PendingCount, PendingEach, PendingGuard, PendingRight, PlainEachSize, PlainGet, PlainLeave, Silent, Stepped, ToCall, ToIndex, ToInvoke, ToSetAlias, ToSetValue, TreeAct, TreeFrame, TreeHere, TreeRaising, TreeRun, TreeScope, TreeUnmet, TreeValue, push, tree_moved, tree_raises}
+use Rattle.obq_windows.specs.Trees.{Asks, BlockTask, ExprTask, Kept, KeptRaising, KeptValue, PendingChain, PendingCount, PendingEach, PendingGuard, PendingRight, PendingTesting, PlainEachSize, PlainGet, PlainLeave, PlainLineUp, Silent, Stepped, ToCall, ToIndex, ToInvoke, ToSetAlias, ToSetValue, TreeAct, TreeFrame, TreeHere, TreeRaising, TreeRun, TreeScope, TreeTest, TreeUnmet, TreeValue, push, tree_moved, tree_raises}
 use Rattle.obq_windows.specs.Values.{ClosureValue, ExceptionValue, IntValue, LocationValue, OkayValue, PlainValue, Table, TextValue, ThreadValue, TruthValue}
-use Rattle.obq_windows.specs.Windows.{Activation, NodeAct, NodeChain, NodeCount, NodeEach, NodeFrame, NodeGuard, NodeHere, NodeMoved, NodeRaising, NodeRight, NodeRun, NodeScope, NodeUnmet, NodeValue, Store, args_node, bind, binds_node, count_node, count_node_at, give_node_and, give_node_field, give_node_foreach, give_node_guard, give_node_if, give_node_left, give_node_or, give_node_raise, give_node_suffix, give_node_to, guards_node, leave_node, next_count_node, node_at, node_moved, node_raises, operator_in, vars_node, with_operator, with_suffix}
+use Rattle.obq_windows.specs.Windows.{Activation, NodeAct, NodeChain, NodeCount, NodeEach, NodeFrame, NodeGuard, NodeHere, NodeMoved, NodeRaising, NodeRight, NodeRun, NodeScope, NodeTest, NodeTesting, NodeUnmet, NodeValue, Store, args_node, begin_node_watch, bind, binds_node, count_node, count_node_at, give_node_and, give_node_field, give_node_foreach, give_node_guard, give_node_if, give_node_left, give_node_or, give_node_raise, give_node_suffix, give_node_testing, give_node_to, give_node_watch, guards_node, leave_node, next_count_node, node_at, node_moved, node_raises, operator_in, vars_node, with_operator, with_suffix}
 use Rattle.obq_windows.proofs.Alike.{arms_alike, at_node, expr_head, plain_node, suffix_frames}
 use Rattle.obq_windows.proofs.AlikeCalls.{alone, args_alike}
 use Rattle.obq_windows.proofs.AlikeItems.{binds_alike, respelled, vars_alike}
@@ -226,6 +227,38 @@ item_alike {R} T S act b bound w ns fs fr child x block r i n v h = record {
 } where
   one_more : (n : ℕ) → n ≤ suc n
   one_more n = omega arith
+
+pub watch_alike : {R : Type 0} → (T : Table R) (S : Store R) (self : Self R) (act : Activation R) (b : ℕ) (bound : List (Bound R)) → IsBound act b bound → (ns : List (NodeFrame R)) (fs : List (TreeFrame R)) → FramesAre T S act b ns fs → (child : ℕ) (e : ExprTree) (v : PlainValue R)
+    → StandsAt T S act.code (draft_expr (outside_at T (place_at act bound)) (bound_names bound) e) child → Same T S (give_node_watch self v act ns child b) (give_watch self v (place_at act bound) e fs)
+watch_alike T S self act b bound w ns fs fr child e (IntValue z) h = alike T S Stepped act b ns (node_raises (codes "type")) fs (tree_raises (codes "type")) fr refl
+watch_alike T S self act b bound w ns fs fr child e OkayValue h = alike T S Stepped act b ns (node_raises (codes "type")) fs (tree_raises (codes "type")) fr refl
+watch_alike T S self act b bound w ns fs fr child e (TextValue z) h = alike T S Stepped act b ns (node_raises (codes "type")) fs (tree_raises (codes "type")) fr refl
+watch_alike T S self act b bound w ns fs fr child e (ExceptionValue z) h = alike T S Stepped act b ns (node_raises (codes "type")) fs (tree_raises (codes "type")) fr refl
+watch_alike T S self act b bound w ns fs fr child e (ThreadValue z) h = alike T S Stepped act b ns (node_raises (codes "type")) fs (tree_raises (codes "type")) fr refl
+watch_alike T S self act b bound w ns fs fr child e (TruthValue z) h = alike T S Stepped act b ns (node_raises (codes "type")) fs (tree_raises (codes "type")) fr refl
+watch_alike T S self act b bound w ns fs fr child e (LocationValue Object z) h = alike T S Stepped act b ns (node_raises (codes "type")) fs (tree_raises (codes "type")) fr refl
+watch_alike T S self act b bound w ns fs fr child e (LocationValue Array z) h = alike T S Stepped act b ns (node_raises (codes "type")) fs (tree_raises (codes "type")) fr refl
+watch_alike T S self act b bound w ns fs fr child e (LocationValue Variable z) h = alike T S Stepped act b ns (node_raises (codes "type")) fs (tree_raises (codes "type")) fr refl
+watch_alike T S self act b bound w ns fs fr child e (LocationValue Writer z) h = alike T S Stepped act b ns (node_raises (codes "type")) fs (tree_raises (codes "type")) fr refl
+watch_alike T S self act b bound w ns fs fr child e (LocationValue Engine z) h = alike T S Stepped act b ns (node_raises (codes "type")) fs (tree_raises (codes "type")) fr refl
+watch_alike T S self act b bound w ns fs fr child e (ClosureValue t n group index cs) h = alike T S Stepped act b ns (node_raises (codes "type")) fs (tree_raises (codes "type")) fr refl
+watch_alike {R} T S self act b bound w ns fs fr child e (LocationValue Condition c) h = at self.object self.plain where
+  at : (o : Option R) (plain : Bool) → Same T S (begin_node_watch o plain c act ns child b) (begin_watch o plain c (place_at act bound) e fs)
+  at (Some o) false = alike T S Stepped act b (NodeTesting o c child b ∷ ns) (NodeRun child b) (push (place_at act bound) (PendingTesting o c e) fs) (TreeRun (place_at act bound) (ExprTask e)) (NodeTesting o c child b, ns, refl, (child, b, refl, not_above b, (bound, refl, w), h), fr) (child, refl, (bound, refl, w), h)
+  at (Some o) true = alike T S Stepped act b ns (node_raises (codes "not_serialized")) fs (tree_raises (codes "not_serialized")) fr refl
+  at None plain = alike T S Stepped act b ns (node_raises (codes "not_serialized")) fs (tree_raises (codes "not_serialized")) fr refl
+
+pub testing_alike : {R : Type 0} → (T : Table R) (S : Store R) (act : Activation R) (b : ℕ) (bound : List (Bound R)) → IsBound act b bound → (ns : List (NodeFrame R)) (fs : List (TreeFrame R)) → FramesAre T S act b ns fs → (child : ℕ) (o c : R) (e : ExprTree) (v : PlainValue R)
+    → StandsAt T S act.code (draft_expr (outside_at T (place_at act bound)) (bound_names bound) e) child → Same T S (give_node_testing o c v act ns child b) (give_testing o c v (place_at act bound) e fs)
+testing_alike T S act b bound w ns fs fr child o c e (TruthValue true) h = alike T S Stepped act b ns (NodeValue OkayValue) fs (TreeValue OkayValue) fr refl
+testing_alike T S act b bound w ns fs fr child o c e (TruthValue false) h = alike T S (Asks (PlainLineUp o c)) act b ns (NodeAct (PlainLineUp o c) (NodeTest child b)) fs (TreeAct (PlainLineUp o c) (TreeTest (place_at act bound) e)) fr (NodeTest child b, refl, (child, refl, (bound, refl, w), h))
+testing_alike T S act b bound w ns fs fr child o c e (IntValue z) h = alike T S Stepped act b ns (node_raises (codes "type")) fs (tree_raises (codes "type")) fr refl
+testing_alike T S act b bound w ns fs fr child o c e OkayValue h = alike T S Stepped act b ns (node_raises (codes "type")) fs (tree_raises (codes "type")) fr refl
+testing_alike T S act b bound w ns fs fr child o c e (TextValue z) h = alike T S Stepped act b ns (node_raises (codes "type")) fs (tree_raises (codes "type")) fr refl
+testing_alike T S act b bound w ns fs fr child o c e (ExceptionValue z) h = alike T S Stepped act b ns (node_raises (codes "type")) fs (tree_raises (codes "type")) fr refl
+testing_alike T S act b bound w ns fs fr child o c e (ThreadValue z) h = alike T S Stepped act b ns (node_raises (codes "type")) fs (tree_raises (codes "type")) fr refl
+testing_alike T S act b bound w ns fs fr child o c e (LocationValue k z) h = alike T S Stepped act b ns (node_raises (codes "type")) fs (tree_raises (codes "type")) fr refl
+testing_alike T S act b bound w ns fs fr child o c e (ClosureValue t n group index cs) h = alike T S Stepped act b ns (node_raises (codes "type")) fs (tree_raises (codes "type")) fr refl
 
 field_plain : {R : Type 0} → (S : Store R) (k : ℕ) (v : PlainValue R) (x : Bytes) (act : Activation R) (ns : List (NodeFrame R)) (child b : ℕ) (a : Node) → plain_node a ≡ true → give_node_field S k v x act ns child b (Some a) ≡ args_node S k (ToSetValue x) act (v ∷ []) child 1 b ns
 field_plain S k v x act ns child b (n.Alias y) e = absurd (true_false (sym e))

@@ -10,18 +10,18 @@ use Rattle.obq_model.specs.Occurrences.{bind_names}
 use Rattle.obq_model.specs.Procedures.{Proc}
 use Rattle.obq_model.specs.Put.{enter}
 use Rattle.obq_model.specs.Resolved.{IsNumbered}
-use Rattle.obq_model.specs.Step.{Frame, Operation, body_with, find, plug}
+use Rattle.obq_model.specs.Step.{Frame, Operation, body_with, find, plug, testing}
 use Rattle.obq_model.specs.Terms.{Const, EachIn, End, Form, Object, Okay, Part, Term}
 use Rattle.obq_model.proofs.Among.{true_false}
 use Rattle.obq_model.proofs.Plug.{plug_append}
-use Rattle.obq_windows.specs.Acts.{AnswerCalled, AnswerForm, AnswerMethod, AnswerRaising, AnswerValue, AnswersRead, CompleteAnswer, HasParameters, PlainAnswer, Takes, answer_node, answer_tree, enter_node_code, enter_node_value, enter_tree, enter_tree_code, enter_tree_value, left_by, scope_of, value_at_node, value_at_tree}
+use Rattle.obq_windows.specs.Acts.{AnswerCalled, AnswerForm, AnswerMethod, AnswerRaising, AnswerTest, AnswerValue, AnswersRead, CompleteAnswer, HasParameters, PlainAnswer, Takes, answer_node, answer_tree, enter_node_code, enter_node_value, enter_tree, enter_tree_code, enter_tree_value, left_by, scope_of, test_at_node, test_at_tree, value_at_node, value_at_tree}
 use Rattle.obq_windows.specs.Agrees.{AfterIs, Agrees, Alike, FocusIs, FrameIs, FramesAre, Same, StandsAt, act_behind, height_behind}
 use Rattle.obq_windows.specs.Complete.{AllComplete, CompleteAfter, CompleteFocus, CompleteFrames, CompleteOperation, CompletePending, CompletePlace, IsComplete, Knows}
 use Rattle.obq_windows.specs.Moves.{begin_vars}
 use Rattle.obq_windows.specs.Places.{Place, bind_of, outside_at, place_of, with_bound, zipped}
-use Rattle.obq_windows.specs.Trees.{BlockTask, ExprTask, ItemsTask, NameScope, NoScope, PendingCalled, PendingEach, PendingForm, PendingWithin, PlainBroadcast, PlainEachItem, PlainEachSize, PlainExport, PlainForkOff, PlainGet, PlainImport, PlainInvoke, PlainItemOf, PlainJoin, PlainLeave, PlainNewArray, PlainNewCondition, PlainNewEngine, PlainNewVariable, PlainOperation, PlainRead, PlainRedirect, PlainRunEngine, PlainSetAlias, PlainSetItem, PlainSetValue, PlainSetVariable, PlainSignal, PlainSize, PlainWrite, ScopeKind, Silent, TreeAct, TreeAfter, TreeFocus, TreeFrame, TreeHere, TreeMoved, TreeRaising, TreeRun, TreeScope, TreeUnder, TreeUnmet, TreeValue, act_form, block_at, frames_of, kind_of, names_at, pending_frames, push, read_operation, scope_after, scope_at, term_of, tree_moved, vars_at}
+use Rattle.obq_windows.specs.Trees.{BlockTask, ExprTask, GuardScope, ItemsTask, NameScope, NoScope, PendingCalled, PendingEach, PendingForm, PendingTesting, PendingWithin, PlainAgain, PlainBroadcast, PlainEachItem, PlainEachSize, PlainExport, PlainForkOff, PlainGet, PlainGiveUp, PlainImport, PlainInvoke, PlainItemOf, PlainJoin, PlainLeave, PlainLineUp, PlainNewArray, PlainNewCondition, PlainNewEngine, PlainNewVariable, PlainOperation, PlainRead, PlainRedirect, PlainRunEngine, PlainSetAlias, PlainSetItem, PlainSetValue, PlainSetVariable, PlainSignal, PlainSize, PlainWrite, ScopeKind, Silent, TreeAct, TreeAfter, TreeFocus, TreeFrame, TreeHere, TreeMoved, TreeRaising, TreeRun, TreeScope, TreeTest, TreeUnder, TreeUnmet, TreeValue, act_form, block_at, expr_at, frames_of, kind_of, names_at, pending_frames, push, read_operation, scope_after, scope_at, term_of, tree_moved, vars_at}
 use Rattle.obq_windows.specs.Values.{ClosureValue, ExceptionValue, IntValue, LocationValue, NoValues, OkayValue, PlainValue, Table, TextValue, ThreadValue, TruthValue, closure_of, proc_named, read_all, read_value, read_values}
-use Rattle.obq_windows.specs.Windows.{Activation, NodeAct, NodeAfter, NodeCalled, NodeEach, NodeFocus, NodeFrame, NodeMoved, NodeRun, NodeWithin, Store, activation_of, bind, node_moved, vars_node}
+use Rattle.obq_windows.specs.Windows.{Activation, NodeAct, NodeAfter, NodeCalled, NodeEach, NodeFocus, NodeFrame, NodeMoved, NodeRun, NodeTesting, NodeWithin, Store, activation_of, bind, node_moved, vars_node}
 use Rattle.obq_windows.proofs.Acts.{Asked, act_asks}
 use Rattle.obq_windows.proofs.AlikeCalls.{at_entry}
 use Rattle.obq_windows.proofs.AlikeGives.{item_alike, var_alike}
@@ -31,6 +31,7 @@ use Rattle.obq_windows.proofs.Frames.{frames_full}
 use Rattle.obq_windows.proofs.Gives.{block_entered, var_given}
 use Rattle.obq_windows.proofs.Keeps.{CompleteMoved, place_more, vars_kept, zipped_complete}
 use Rattle.obq_windows.proofs.Running.{is_left_out}
+use Rattle.obq_windows.proofs.Slots.{not_above}
 use Rattle.obq_windows.proofs.Starting.{vars_start}
 use Rattle.obq_windows.proofs.Whole.{made_of}
 
@@ -70,6 +71,10 @@ abbrev has_a_name : ScopeKind → Bool
 has_a_name NameScope = true
 has_a_name kind = false
 
+abbrev has_a_guard : ScopeKind → Bool
+has_a_guard GuardScope = true
+has_a_guard kind = false
+
 abbrev has_no_scope : ScopeKind → Bool
 has_no_scope NoScope = true
 has_no_scope kind = false
@@ -78,6 +83,7 @@ has_no_scope kind = false
 no_scope : {R : Type 0} → (T : Table R) (op : PlainOperation R) (after : TreeAfter R) → kind_of op ≡ NoScope → CompleteAfter T op after → scope_after T after ≡ Const Okay
 no_scope T op TreeHere e l = refl
 no_scope T op (TreeUnder p x bs is) e l = absurd (true_false (ap has_no_scope (sym e ∙ l.1)))
+no_scope T op (TreeTest p x) e l = absurd (true_false (ap has_no_scope (sym e ∙ l.1)))
 no_scope T op (TreeScope p x b) e l = absurd (true_false (ap has_no_scope (sym e ∙ l.1)))
 
 -- the scope of a form is that of its operation
@@ -91,6 +97,9 @@ scope_is T (PlainSize r) after l = sym (no_scope T (PlainSize r) after refl l)
 scope_is T (PlainNewArray vs) after l = sym (no_scope T (PlainNewArray vs) after refl l)
 scope_is T (PlainEachSize r) after l = refl
 scope_is T (PlainEachItem r i n) after l = refl
+scope_is T (PlainLineUp o c) after l = refl
+scope_is T (PlainGiveUp o c) after l = refl
+scope_is T (PlainAgain o c) after l = refl
 scope_is T PlainNewCondition after l = sym (no_scope T PlainNewCondition after refl l)
 scope_is T (PlainForkOff f) after l = sym (no_scope T (PlainForkOff f) after refl l)
 scope_is T (PlainRunEngine e f) after l = sym (no_scope T (PlainRunEngine e f) after refl l)
@@ -112,6 +121,7 @@ same_kind : {R : Type 0} → (T : Table R) (op p : PlainOperation R) (after : Tr
 same_kind T op p TreeHere e l = e ∙ l
 same_kind T op p (TreeUnder q x bs is) e l = (l.0, e ∙ l.1)
 same_kind T op p (TreeScope q x b) e l = (l.0, e ∙ l.1)
+same_kind T op p (TreeTest q x) e l = (l.0, e ∙ l.1)
 
 -- what an answer makes of the two windows
 record Answered {R : Type 0} (T : Table R) (S : Store R) (m : NodeMoved R) (t : TreeMoved R) (u : Term R) : Type 0 where
@@ -139,12 +149,14 @@ variable_answered {R} T S g act b ns fs fr k u na (TreeUnder p x bs is) h l v c 
       term = sym (whole T fs _ _ _ (vars_start T fs Silent (with_bound p (bind_of x v ∷ [])) bs is).leads) ∙ ap (plug (frames_of T fs)) (sym (var_given T p x v bs is));
     })
 variable_answered {R} T S g act b ns fs fr k u na (TreeScope p x block) h l v c = absurd (true_false (ap has_a_name l.1))
+variable_answered {R} T S g act b ns fs fr k u na (TreeTest p e) h l v c = absurd (true_false (ap has_a_name l.1))
 
 -- an item goes under the name of its `foreach`
 item_answered : {R : Type 0} → (T : Table R) (S : Store R) → Agrees T S → (act : Activation R) (b : ℕ) (ns : List (NodeFrame R)) (fs : List (TreeFrame R)) → FramesAre T S act b ns fs → CompleteFrames T fs → (r : R) (i n : ℕ) (na : NodeAfter) (after : TreeAfter R) → AfterIs T S act b na after → CompleteAfter T (PlainEachItem r i n) after
     → (v : PlainValue R) → IsComplete T v → Answered T S (value_at_node S (PlainEachItem r i n) na v act ns) (value_at_tree (PlainEachItem r i n) after v fs) (plug (frames_of T fs) (Form (EachIn r i n) (Part (enter (read_value T v ∷ []) (scope_after T after)) (Part (scope_after T after) End))))
 item_answered T S g act b ns fs fr k r i n na TreeHere h l v c = absurd (true_false (ap has_no_scope (sym l)))
 item_answered T S g act b ns fs fr k r i n na (TreeUnder p x bs is) h l v c = absurd (true_false (ap has_a_name (sym l.1)))
+item_answered T S g act b ns fs fr k r i n na (TreeTest p e) h l v c = absurd (true_false (ap has_a_guard (sym l.1)))
 item_answered {R} T S g act b ns fs fr k r i n na (TreeScope p x block) h l v c =
     subst (λ (z : NodeAfter). Answered T S (value_at_node S (PlainEachItem r i n) z v act ns) (tree_moved Silent (push p (PendingEach r i n x block) fs) (TreeRun (with_bound p (bind_of x v ∷ [])) (BlockTask block))) (plug (frames_of T fs) (Form (EachIn r i n) (Part (enter (read_value T v ∷ []) (scope_at T p x block)) (Part (scope_at T p x block) End))))) (sym h.1)
     (record {
@@ -164,6 +176,9 @@ value_answered {R} T S g act b ns fs fr k (PlainItemOf r i) na after h l v c = r
 value_answered {R} T S g act b ns fs fr k (PlainSize r) na after h l v c = record { same = record { tag = refl; makes = refl; height = b; frames = fr; focus = refl }; complete = record { frames = k; focus = c }; term = refl }
 value_answered {R} T S g act b ns fs fr k (PlainNewArray vs) na after h l v c = record { same = record { tag = refl; makes = refl; height = b; frames = fr; focus = refl }; complete = record { frames = k; focus = c }; term = refl }
 value_answered {R} T S g act b ns fs fr k PlainNewCondition na after h l v c = record { same = record { tag = refl; makes = refl; height = b; frames = fr; focus = refl }; complete = record { frames = k; focus = c }; term = refl }
+value_answered {R} T S g act b ns fs fr k (PlainLineUp o d) na after h l v c = record { same = record { tag = refl; makes = refl; height = b; frames = fr; focus = refl }; complete = record { frames = k; focus = c }; term = refl }
+value_answered {R} T S g act b ns fs fr k (PlainGiveUp o d) na after h l v c = record { same = record { tag = refl; makes = refl; height = b; frames = fr; focus = refl }; complete = record { frames = k; focus = c }; term = refl }
+value_answered {R} T S g act b ns fs fr k (PlainAgain o d) na after h l v c = record { same = record { tag = refl; makes = refl; height = b; frames = fr; focus = refl }; complete = record { frames = k; focus = c }; term = refl }
 value_answered {R} T S g act b ns fs fr k (PlainEachSize r) na after h l v c = record { same = record { tag = refl; makes = refl; height = b; frames = fr; focus = refl }; complete = record { frames = k; focus = c }; term = refl }
 value_answered T S g act b ns fs fr k (PlainEachItem r i n) na after h l v c = item_answered T S g act b ns fs fr k r i n na after h l v c
 value_answered {R} T S g act b ns fs fr k (PlainForkOff f) na after h l v c = record { same = record { tag = refl; makes = refl; height = b; frames = fr; focus = refl }; complete = record { frames = k; focus = c }; term = refl }
@@ -181,6 +196,51 @@ value_answered {R} T S g act b ns fs fr k (PlainSignal x) na after h l v c = rec
 value_answered {R} T S g act b ns fs fr k (PlainBroadcast x) na after h l v c = record { same = record { tag = refl; makes = refl; height = b; frames = fr; focus = refl }; complete = record { frames = k; focus = c }; term = refl }
 value_answered {R} T S g act b ns fs fr k (PlainJoin t) na after h l v c = record { same = record { tag = refl; makes = refl; height = b; frames = fr; focus = refl }; complete = record { frames = k; focus = c }; term = refl }
 value_answered T S g act b ns fs fr k (PlainNewVariable u) na after h l v c = variable_answered T S g act b ns fs fr k u na after h l v c
+
+-- a watch that has taken the mutex again
+again_answered : {R : Type 0} → (T : Table R) (S : Store R) (act : Activation R) (b : ℕ) (ns : List (NodeFrame R)) (fs : List (TreeFrame R)) → FramesAre T S act b ns fs → CompleteFrames T fs → (o c : R) (na : NodeAfter) (after : TreeAfter R) → AfterIs T S act b na after → CompleteAfter T (PlainAgain o c) after
+    → Answered T S (test_at_node (PlainAgain o c) na act ns) (test_at_tree (PlainAgain o c) after fs) (plug (frames_of T fs) (testing o c (scope_after T after)))
+again_answered T S act b ns fs fr k o c na TreeHere h l = absurd (true_false (ap has_no_scope (sym l)))
+again_answered T S act b ns fs fr k o c na (TreeUnder p x bs is) h l = absurd (true_false (ap has_a_name (sym l.1)))
+again_answered T S act b ns fs fr k o c na (TreeScope p x block) h l = absurd (true_false (ap has_a_guard l.1))
+again_answered {R} T S act b ns fs fr k o c na (TreeTest p e) h l =
+    subst (λ (z : NodeAfter). Answered T S (test_at_node (PlainAgain o c) z act ns) (tree_moved Silent (push p (PendingTesting o c e) fs) (TreeRun p (ExprTask e))) (plug (frames_of T fs) (testing o c (expr_at T p e)))) (sym h.1)
+    (record {
+      same = record { tag = refl; makes = refl; height = b; frames = (NodeTesting o c h.0 b, ns, refl, (h.0, b, refl, not_above b, h.2, h.3), fr); focus = (h.0, refl, h.2, h.3) };
+      complete = record { frames = (l.0, tt, k); focus = l.0 };
+      term = plug_append (frames_of T fs) (pending_frames T p (PendingTesting o c e)) (expr_at T p e);
+    })
+
+test_answered : {R : Type 0} → (T : Table R) (S : Store R) (act : Activation R) (b : ℕ) (ns : List (NodeFrame R)) (fs : List (TreeFrame R)) → FramesAre T S act b ns fs → CompleteFrames T fs → (op : PlainOperation R) (na : NodeAfter) (after : TreeAfter R) → AfterIs T S act b na after → CompleteAfter T op after
+    → Answered T S (test_at_node op na act ns) (test_at_tree op after fs) (plug (frames_of T fs) (left_by T (read_operation T op (scope_after T after)) AnswerTest))
+test_answered T S act b ns fs fr k (PlainAgain o d) na after h l = again_answered T S act b ns fs fr k o d na after h l
+test_answered T S act b ns fs fr k (PlainGet o x) na after h l = record { same = record { tag = refl; makes = refl; height = b; frames = fr; focus = refl }; complete = record { frames = k; focus = tt }; term = refl }
+test_answered T S act b ns fs fr k (PlainRead r) na after h l = record { same = record { tag = refl; makes = refl; height = b; frames = fr; focus = refl }; complete = record { frames = k; focus = tt }; term = refl }
+test_answered T S act b ns fs fr k (PlainWrite x t) na after h l = record { same = record { tag = refl; makes = refl; height = b; frames = fr; focus = refl }; complete = record { frames = k; focus = tt }; term = refl }
+test_answered T S act b ns fs fr k (PlainInvoke o x vs) na after h l = record { same = record { tag = refl; makes = refl; height = b; frames = fr; focus = refl }; complete = record { frames = k; focus = tt }; term = refl }
+test_answered T S act b ns fs fr k (PlainItemOf r i) na after h l = record { same = record { tag = refl; makes = refl; height = b; frames = fr; focus = refl }; complete = record { frames = k; focus = tt }; term = refl }
+test_answered T S act b ns fs fr k (PlainSize r) na after h l = record { same = record { tag = refl; makes = refl; height = b; frames = fr; focus = refl }; complete = record { frames = k; focus = tt }; term = refl }
+test_answered T S act b ns fs fr k (PlainNewArray vs) na after h l = record { same = record { tag = refl; makes = refl; height = b; frames = fr; focus = refl }; complete = record { frames = k; focus = tt }; term = refl }
+test_answered T S act b ns fs fr k PlainNewCondition na after h l = record { same = record { tag = refl; makes = refl; height = b; frames = fr; focus = refl }; complete = record { frames = k; focus = tt }; term = refl }
+test_answered T S act b ns fs fr k (PlainLineUp o d) na after h l = record { same = record { tag = refl; makes = refl; height = b; frames = fr; focus = refl }; complete = record { frames = k; focus = tt }; term = refl }
+test_answered T S act b ns fs fr k (PlainGiveUp o d) na after h l = record { same = record { tag = refl; makes = refl; height = b; frames = fr; focus = refl }; complete = record { frames = k; focus = tt }; term = refl }
+test_answered T S act b ns fs fr k (PlainEachSize r) na after h l = record { same = record { tag = refl; makes = refl; height = b; frames = fr; focus = refl }; complete = record { frames = k; focus = tt }; term = refl }
+test_answered T S act b ns fs fr k (PlainEachItem r i n) na after h l = record { same = record { tag = refl; makes = refl; height = b; frames = fr; focus = refl }; complete = record { frames = k; focus = tt }; term = refl }
+test_answered T S act b ns fs fr k (PlainForkOff f) na after h l = record { same = record { tag = refl; makes = refl; height = b; frames = fr; focus = refl }; complete = record { frames = k; focus = tt }; term = refl }
+test_answered T S act b ns fs fr k (PlainRunEngine e f) na after h l = record { same = record { tag = refl; makes = refl; height = b; frames = fr; focus = refl }; complete = record { frames = k; focus = tt }; term = refl }
+test_answered T S act b ns fs fr k (PlainExport x namer u) na after h l = record { same = record { tag = refl; makes = refl; height = b; frames = fr; focus = refl }; complete = record { frames = k; focus = tt }; term = refl }
+test_answered T S act b ns fs fr k (PlainImport x namer engine) na after h l = record { same = record { tag = refl; makes = refl; height = b; frames = fr; focus = refl }; complete = record { frames = k; focus = tt }; term = refl }
+test_answered T S act b ns fs fr k (PlainNewEngine x namer u) na after h l = record { same = record { tag = refl; makes = refl; height = b; frames = fr; focus = refl }; complete = record { frames = k; focus = tt }; term = refl }
+test_answered T S act b ns fs fr k (PlainLeave o u) na after h l = record { same = record { tag = refl; makes = refl; height = b; frames = fr; focus = refl }; complete = record { frames = k; focus = tt }; term = refl }
+test_answered T S act b ns fs fr k (PlainSetVariable r u) na after h l = record { same = record { tag = refl; makes = refl; height = b; frames = fr; focus = refl }; complete = record { frames = k; focus = tt }; term = refl }
+test_answered T S act b ns fs fr k (PlainSetItem r i u) na after h l = record { same = record { tag = refl; makes = refl; height = b; frames = fr; focus = refl }; complete = record { frames = k; focus = tt }; term = refl }
+test_answered T S act b ns fs fr k (PlainSetValue o x u) na after h l = record { same = record { tag = refl; makes = refl; height = b; frames = fr; focus = refl }; complete = record { frames = k; focus = tt }; term = refl }
+test_answered T S act b ns fs fr k (PlainSetAlias o x q y) na after h l = record { same = record { tag = refl; makes = refl; height = b; frames = fr; focus = refl }; complete = record { frames = k; focus = tt }; term = refl }
+test_answered T S act b ns fs fr k (PlainRedirect o q) na after h l = record { same = record { tag = refl; makes = refl; height = b; frames = fr; focus = refl }; complete = record { frames = k; focus = tt }; term = refl }
+test_answered T S act b ns fs fr k (PlainSignal x) na after h l = record { same = record { tag = refl; makes = refl; height = b; frames = fr; focus = refl }; complete = record { frames = k; focus = tt }; term = refl }
+test_answered T S act b ns fs fr k (PlainBroadcast x) na after h l = record { same = record { tag = refl; makes = refl; height = b; frames = fr; focus = refl }; complete = record { frames = k; focus = tt }; term = refl }
+test_answered T S act b ns fs fr k (PlainJoin t) na after h l = record { same = record { tag = refl; makes = refl; height = b; frames = fr; focus = refl }; complete = record { frames = k; focus = tt }; term = refl }
+test_answered T S act b ns fs fr k (PlainNewVariable u) na after h l = record { same = record { tag = refl; makes = refl; height = b; frames = fr; focus = refl }; complete = record { frames = k; focus = tt }; term = refl }
 
 -- what stands around a body that is entered
 record Caller {R : Type 0} (T : Table R) (S : Store R) (act : Activation R) (f : NodeFrame R) (pending : PendingForm R) : Type 0 where
@@ -241,6 +301,7 @@ entered_answer T S g act b ns fs fr k f pending caller around (LocationValue z r
 answered : {R : Type 0} → (T : Table R) (S : Store R) → Agrees T S → (act : Activation R) (b : ℕ) (ns : List (NodeFrame R)) (fs : List (TreeFrame R)) → FramesAre T S act b ns fs → CompleteFrames T fs → (op : PlainOperation R) (na : NodeAfter) (after : TreeAfter R) → AfterIs T S act b na after → CompleteAfter T op after
     → (answer : PlainAnswer R) → CompleteAnswer T op answer → Answered T S (answer_node S op na answer act ns) (answer_tree T op after answer fs) (plug (frames_of T fs) (left_by T (read_operation T op (scope_after T after)) answer))
 answered T S g act b ns fs fr k op na after h l (AnswerRaising r) c = record { same = record { tag = refl; makes = refl; height = b; frames = fr; focus = refl }; complete = record { frames = k; focus = tt }; term = refl }
+answered T S g act b ns fs fr k op na after h l AnswerTest c = test_answered T S act b ns fs fr k op na after h l
 answered T S g act b ns fs fr k op na after h l (AnswerForm p) c = record {
   same = record { tag = refl; makes = refl; height = b; frames = fr; focus = (na, refl, h) };
   complete = record { frames = k; focus = (c.0, same_kind T op p after c.1 l) };

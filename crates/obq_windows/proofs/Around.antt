@@ -9,12 +9,12 @@ use Rattle.obq_model.specs.Opened.{open_chain, open_expr, open_field, open_suffi
 use Rattle.obq_model.specs.Opening.{linked}
 use Rattle.obq_model.specs.Reading.{read}
 use Rattle.obq_model.specs.Step.{Found, Frame, Needs, Next, Pending, Self, activations_at, fill, find, is_operand, plug, self_at}
-use Rattle.obq_model.specs.Terms.{Assign, Bytes, Called, Choosing, Counting, EachIn, End, Finally, Finishing, For, Foreach, Form, If, Kind, Let, Looping, Part, Parts, Raise, SetMethod, Term, Then, Try, Var, Within}
+use Rattle.obq_model.specs.Terms.{Assign, Bytes, Called, Choosing, Counting, EachIn, End, Finally, Finishing, For, Foreach, Form, If, Kind, Let, Looping, Part, Parts, Raise, SetMethod, Term, Testing, Then, Try, Var, Watch, Within}
 use Rattle.obq_model.proofs.Plug.{frames_append, needs_plug, plug_append, step_plug}
 use Rattle.obq_windows.specs.Meanings.{Means, Moves}
 use Rattle.obq_windows.specs.Moves.{with_links, with_suffixes}
 use Rattle.obq_windows.specs.Places.{Place, env_at, outside_at, writer_at}
-use Rattle.obq_windows.specs.Trees.{Asks, Callee, PendingArguments, PendingAssign, PendingCalled, PendingChain, PendingCount, PendingEach, PendingField, PendingFirst, PendingForeach, PendingForm, PendingGuard, PendingHead, PendingIf, PendingKept, PendingLast, PendingLet, PendingLoop, PendingRaise, PendingRight, PendingThen, PendingTo, PendingTry, PendingVar, PendingWithin, PlainOperation, Silent, Stepped, Tag, ToArray, ToBuiltin, ToCall, ToIndex, ToInvoke, ToRedirect, ToSetAlias, ToSetIndex, ToSetValue, TreeAct, TreeAfter, TreeFocus, TreeFrame, TreeMoved, callee_frame, expr_at, exprs_at, field_frame, focus_term, frames_of, link_frame, linked_kind, links_around, names_at, pending_frames, push, read_operation, scope_after, suffix_frame, suffixes_around, term_of, tree_moved}
+use Rattle.obq_windows.specs.Trees.{Asks, Callee, PendingArguments, PendingAssign, PendingCalled, PendingChain, PendingCount, PendingEach, PendingField, PendingFirst, PendingForeach, PendingForm, PendingGuard, PendingHead, PendingIf, PendingKept, PendingLast, PendingLet, PendingLoop, PendingRaise, PendingRight, PendingTesting, PendingThen, PendingTo, PendingTry, PendingVar, PendingWatch, PendingWithin, PlainOperation, Silent, Stepped, Tag, ToArray, ToBuiltin, ToCall, ToIndex, ToInvoke, ToRedirect, ToSetAlias, ToSetIndex, ToSetValue, TreeAct, TreeAfter, TreeFocus, TreeFrame, TreeMoved, callee_frame, expr_at, exprs_at, field_frame, focus_term, frames_of, link_frame, linked_kind, links_around, names_at, pending_frames, push, read_operation, scope_after, suffix_frame, suffixes_around, term_of, tree_moved}
 use Rattle.obq_windows.specs.Values.{PlainValue, Table}
 
 -- a frame whose hole is its first part
@@ -75,6 +75,8 @@ pend_are_frames T p (PendingRight v op) = (λ i l. refl, tt)
 pend_are_frames T p (PendingHead s ss) = frames_append _ _ (suffixes_are_frames T p ss) (suffix_is_frame T p s, tt)
 pend_are_frames T p (PendingArguments callee done es) = (callee_is_frame T callee done (exprs_at T p es), tt)
 pend_are_frames {R} T p PendingRaise = (first_hole {R = R} Raise End refl, tt)
+pend_are_frames {R} T p (PendingWatch e) = (first_hole {R = R} Watch End refl, tt)
+pend_are_frames {R} T p (PendingTesting o c e) = (first_hole {R = R} (Testing o c) End refl, tt)
 pend_are_frames {R} T p PendingCalled = (first_hole {R = R} Called End refl, tt)
 pend_are_frames {R} T p (PendingWithin o m) = (first_hole {R = R} (Within o m) End refl, tt)
 pend_are_frames {R} T p (PendingTry arms last) = (first_hole {R = R} Try End refl, tt)

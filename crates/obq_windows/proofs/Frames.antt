@@ -6,9 +6,9 @@ use Rattle.obq_base.specs.Tree.{AnItem, NoItems}
 use Rattle.obq_model.specs.Effect.{kept}
 use Rattle.obq_windows.specs.Agrees.{FrameIs, FramesAre, IsBound, PlaceIs, act_behind, height_behind}
 use Rattle.obq_windows.specs.Places.{Bound, Place, bound_values}
-use Rattle.obq_windows.specs.Trees.{PendingArguments, PendingAssign, PendingCalled, PendingChain, PendingCount, PendingEach, PendingField, PendingFirst, PendingForeach, PendingForm, PendingGuard, PendingHead, PendingIf, PendingKept, PendingLast, PendingLet, PendingLoop, PendingRaise, PendingRight, PendingThen, PendingTo, PendingTry, PendingVar, PendingWithin, TreeFrame}
+use Rattle.obq_windows.specs.Trees.{PendingArguments, PendingAssign, PendingCalled, PendingChain, PendingCount, PendingEach, PendingField, PendingFirst, PendingForeach, PendingForm, PendingGuard, PendingHead, PendingIf, PendingKept, PendingLast, PendingLet, PendingLoop, PendingRaise, PendingRight, PendingTesting, PendingThen, PendingTo, PendingTry, PendingVar, PendingWatch, PendingWithin, TreeFrame}
 use Rattle.obq_windows.specs.Values.{PlainValue, Table}
-use Rattle.obq_windows.specs.Windows.{Activation, NodeArguments, NodeAssign, NodeCalled, NodeChain, NodeCount, NodeEach, NodeField, NodeFirst, NodeForeach, NodeFrame, NodeGuard, NodeHead, NodeIf, NodeKept, NodeLast, NodeLet, NodeLoop, NodeRaise, NodeRight, NodeThen, NodeTo, NodeTry, NodeVar, NodeWithin, Store, bind}
+use Rattle.obq_windows.specs.Windows.{Activation, NodeArguments, NodeAssign, NodeCalled, NodeChain, NodeCount, NodeEach, NodeField, NodeFirst, NodeForeach, NodeFrame, NodeGuard, NodeHead, NodeIf, NodeKept, NodeLast, NodeLet, NodeLoop, NodeRaise, NodeRight, NodeTesting, NodeThen, NodeTo, NodeTry, NodeVar, NodeWatch, NodeWithin, Store, bind}
 
 -- ---- more binders in force
 
@@ -31,6 +31,8 @@ frame_up T S act b c f p (PendingWithin o m) l h = h
 frame_up T S act b c f p (PendingTry arms last) l h = (h.0, h.1, h.2, at_most _ b c h.3 l, h.4, h.5)
 frame_up T S act b c f p (PendingGuard e block arms last) l h = (h.0, h.1, h.2, at_most _ b c h.3 l, h.4, h.5)
 frame_up T S act b c f p (PendingLast block) l h = (h.0, h.1, h.2, at_most _ b c h.3 l, h.4, h.5)
+frame_up T S act b c f p (PendingTesting o d e) l h = (h.0, h.1, h.2, at_most _ b c h.3 l, h.4, h.5)
+frame_up T S act b c f p (PendingWatch e) l h = (h.0, h.1, h.2, at_most _ b c h.3 l, h.4, h.5)
 frame_up T S act b c f p (PendingField x body) l h = (h.0, h.1, h.2, at_most _ b c h.3 l, h.4, h.5)
 frame_up T S act b c f p (PendingKept k) l h = h
 frame_up T S act b c f p (PendingAssign x) l h = (h.0, h.1, at_most _ b c h.2 l, h.3)
@@ -56,6 +58,8 @@ heights b c (NodeWithin caller o m) = inl refl
 heights b c (NodeTry child arms last h) = inl refl
 heights b c (NodeGuard e child arms last h) = inl refl
 heights b c (NodeLast child h) = inl refl
+heights b c (NodeTesting o d child h) = inl refl
+heights b c (NodeWatch child h) = inl refl
 heights b c (NodeKept k) = inr (refl, refl)
 heights b c (NodeLoop child h) = inl refl
 heights b c (NodeAssign slot h) = inl refl
@@ -114,6 +118,8 @@ frame_kept T S act b h vs f p (PendingWithin o m) l k = k
 frame_kept T S act b h vs f p (PendingTry arms last) l k = (k.0, k.1, k.2, k.3, place_kept act _ h vs p (at_most _ b h k.3 l) k.4, k.5)
 frame_kept T S act b h vs f p (PendingGuard e block arms last) l k = (k.0, k.1, k.2, k.3, place_kept act _ h vs p (at_most _ b h k.3 l) k.4, k.5)
 frame_kept T S act b h vs f p (PendingLast block) l k = (k.0, k.1, k.2, k.3, place_kept act _ h vs p (at_most _ b h k.3 l) k.4, k.5)
+frame_kept T S act b h vs f p (PendingTesting o d e) l k = (k.0, k.1, k.2, k.3, place_kept act _ h vs p (at_most _ b h k.3 l) k.4, k.5)
+frame_kept T S act b h vs f p (PendingWatch e) l k = (k.0, k.1, k.2, k.3, place_kept act _ h vs p (at_most _ b h k.3 l) k.4, k.5)
 frame_kept T S act b h vs f p (PendingField x body) l k = (k.0, k.1, k.2, k.3, place_kept act _ h vs p (at_most _ b h k.3 l) k.4, k.5)
 frame_kept T S act b h vs f p (PendingKept kept) l k = k
 frame_kept T S act b h vs f p (PendingAssign x) l k = (k.0, k.1, k.2, place_kept act _ h vs p (at_most _ b h k.2 l) k.3)
@@ -141,6 +147,8 @@ frame_low {R} T S act b f p (PendingWithin o m) k = inr (λ z. ap (λ (g : NodeF
 frame_low {R} T S act b f p (PendingTry arms last) k = inl (subst (λ (z : NodeFrame R). height_behind b z ≤ b) (sym k.2) k.3)
 frame_low {R} T S act b f p (PendingGuard e block arms last) k = inl (subst (λ (z : NodeFrame R). height_behind b z ≤ b) (sym k.2) k.3)
 frame_low {R} T S act b f p (PendingLast block) k = inl (subst (λ (z : NodeFrame R). height_behind b z ≤ b) (sym k.2) k.3)
+frame_low {R} T S act b f p (PendingTesting o d e) k = inl (subst (λ (z : NodeFrame R). height_behind b z ≤ b) (sym k.2) k.3)
+frame_low {R} T S act b f p (PendingWatch e) k = inl (subst (λ (z : NodeFrame R). height_behind b z ≤ b) (sym k.2) k.3)
 frame_low {R} T S act b f p (PendingField x body) k = inl (subst (λ (z : NodeFrame R). height_behind b z ≤ b) (sym k.2) k.3)
 frame_low {R} T S act b f p (PendingKept kept) k = inl (subst (λ (z : NodeFrame R). height_behind b z ≤ b) (sym k) (omega arith))
 frame_low {R} T S act b f p (PendingAssign x) k = inl (subst (λ (z : NodeFrame R). height_behind b z ≤ b) (sym k.1) k.2)
@@ -166,6 +174,8 @@ acts act h vs (NodeWithin caller o m) = inr refl
 acts act h vs (NodeTry child arms last hh) = inl (refl, refl)
 acts act h vs (NodeGuard e child arms last hh) = inl (refl, refl)
 acts act h vs (NodeLast child hh) = inl (refl, refl)
+acts act h vs (NodeTesting o d child hh) = inl (refl, refl)
+acts act h vs (NodeWatch child hh) = inl (refl, refl)
 acts act h vs (NodeKept k) = inl (refl, refl)
 acts act h vs (NodeLoop child hh) = inl (refl, refl)
 acts act h vs (NodeAssign slot hh) = inl (refl, refl)
@@ -241,6 +251,8 @@ frame_full T S act b f p (PendingWithin o m) h = h
 frame_full T S act b f p (PendingTry arms last) h = (h.0, h.1, h.2, in_force act _ h.4.0 h.4.2, h.4, h.5)
 frame_full T S act b f p (PendingGuard e block arms last) h = (h.0, h.1, h.2, in_force act _ h.4.0 h.4.2, h.4, h.5)
 frame_full T S act b f p (PendingLast block) h = (h.0, h.1, h.2, in_force act _ h.4.0 h.4.2, h.4, h.5)
+frame_full T S act b f p (PendingTesting o d e) h = (h.0, h.1, h.2, in_force act _ h.4.0 h.4.2, h.4, h.5)
+frame_full T S act b f p (PendingWatch e) h = (h.0, h.1, h.2, in_force act _ h.4.0 h.4.2, h.4, h.5)
 frame_full T S act b f p (PendingField x body) h = (h.0, h.1, h.2, in_force act _ h.4.0 h.4.2, h.4, h.5)
 frame_full T S act b f p (PendingKept k) h = h
 frame_full T S act b f p (PendingAssign x) h = (h.0, h.1, in_force act _ h.3.0 h.3.2, h.3)
@@ -266,6 +278,8 @@ heights_in act b c (NodeWithin caller o m) = inl refl
 heights_in act b c (NodeTry child arms last h) = inl refl
 heights_in act b c (NodeGuard e child arms last h) = inl refl
 heights_in act b c (NodeLast child h) = inl refl
+heights_in act b c (NodeTesting o d child h) = inl refl
+heights_in act b c (NodeWatch child h) = inl refl
 heights_in act b c (NodeKept k) = inr (refl, refl, refl)
 heights_in act b c (NodeLoop child h) = inl refl
 heights_in act b c (NodeAssign slot h) = inl refl

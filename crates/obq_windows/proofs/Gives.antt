@@ -1,6 +1,6 @@
 -- A value in the innermost frame.
-use Rattle.std.specs.Prelude.{Bool, List, [], bytes_eq, codes, false, if◌then◌else◌, int_lt, pos, refl, suc, true, ℕ, ℤ, ◌++◌, ◌+ℤ◌, ◌∷◌, ◌≡◌}
-use Rattle.std.proofs.Common.{ap, arith, sym, ◌∙◌}
+use Rattle.std.specs.Prelude.{Bool, List, None, Option, Some, [], bytes_eq, codes, false, if◌then◌else◌, int_lt, pos, refl, suc, true, ℕ, ℤ, ◌++◌, ◌+ℤ◌, ◌∷◌, ◌≡◌}
+use Rattle.std.proofs.Common.{ap, arith, subst, sym, ◌∙◌}
 use Rattle.std.proofs.lemmas.Int.{ints}
 use Rattle.std.proofs.lemmas.List.{append_assoc}
 use Rattle.obq_base.specs.Tree.{ABlock, AliasOf, AnArm, AnExpr, ApplySuffix, ArmTrees, BindTrees, BlockTree, ExprTree, FieldTree, IndexSuffix, InvokeSuffix, ItemTrees, LinkTrees, MaybeBlock, MethodOf, NoArms, NoBlock, NoExprs, SelectSuffix, SuffixTree, SuffixTrees, ValueOf}
@@ -9,15 +9,15 @@ use Rattle.obq_model.specs.Exceptions.{wrong_type}
 use Rattle.obq_model.specs.Opened.{builtin_at, open_binds, open_block, open_items}
 use Rattle.obq_model.specs.Put.{enter}
 use Rattle.obq_model.specs.Reading.{Env, hide, read}
-use Rattle.obq_model.specs.Step.{Frame, Next, Self, activations_at, choose, counting, fill, find, find_part, plug, self_at, values_before}
-use Rattle.obq_model.specs.Terms.{AndIf, Apply, Array, Bytes, Call, Choosing, Condition, Const, Counting, End, Engine, Exc, For, Foreach, Form, Held, If, Index, Inner, Int, Invoke, Kind, Let, MakeArray, Mode, Object, Okay, OrIf, Part, Parts, Plain, Raise, Redirect, Select, SetAlias, SetIndex, SetValue, Term, Truth, Try, Under, Value, Var, Variable, Within, Writer}
+use Rattle.obq_model.specs.Step.{Frame, Next, Self, activations_at, choose, counting, fill, find, find_part, plug, self_at, values_before, watching}
+use Rattle.obq_model.specs.Terms.{AndIf, Apply, Array, Bytes, Call, Choosing, Condition, Const, Counting, End, Engine, Exc, For, Foreach, Form, Held, If, Index, Inner, Int, Invoke, Kind, Let, Loc, MakeArray, Mode, Object, Okay, OrIf, Part, Parts, Plain, Raise, Redirect, Select, SetAlias, SetIndex, SetValue, Term, Testing, Truth, Try, Under, Value, Var, Variable, Watch, Within, Writer}
 use Rattle.obq_model.proofs.Plug.{plug_append}
 use Rattle.obq_model.proofs.PutRead.{put_read}
 use Rattle.obq_windows.specs.Meanings.{Moves}
-use Rattle.obq_windows.specs.Moves.{begin_args, begin_arms, begin_binds, begin_count, begin_if, begin_rest, count_activations, count_at, give_and, give_field, give_foreach, give_guard, give_if, give_left, give_or, give_pending, give_raise, give_suffix, give_to, going_on, leave_tree, next_count, target_value, tree_result, tree_self, with_links, with_suffixes}
+use Rattle.obq_windows.specs.Moves.{begin_args, begin_arms, begin_binds, begin_count, begin_if, begin_rest, begin_watch, count_activations, count_at, give_and, give_field, give_foreach, give_guard, give_if, give_left, give_or, give_pending, give_raise, give_suffix, give_testing, give_to, give_watch, going_on, leave_tree, next_count, target_value, tree_result, tree_self, with_links, with_suffixes}
 use Rattle.obq_windows.specs.Places.{Place, bind_of, env_at, outside_at, with_bound, writer_at}
 use Rattle.obq_windows.specs.Results.{assigned, operated}
-use Rattle.obq_windows.specs.Trees.{Asks, BlockTask, Callee, ExprTask, Kept, KeptRaising, KeptValue, PendingArguments, PendingAssign, PendingCalled, PendingChain, PendingCount, PendingEach, PendingField, PendingFirst, PendingForeach, PendingForm, PendingGuard, PendingHead, PendingIf, PendingKept, PendingLast, PendingLet, PendingLoop, PendingRaise, PendingRight, PendingThen, PendingTo, PendingTry, PendingVar, PendingWithin, PlainEachItem, PlainEachSize, PlainGet, PlainLeave, PlainNewVariable, Silent, Stepped, ToArray, ToBuiltin, ToCall, ToIndex, ToInvoke, ToRedirect, ToSetAlias, ToSetIndex, ToSetValue, TreeAct, TreeFrame, TreeHere, TreeRaising, TreeRun, TreeScope, TreeUnder, TreeUnmet, TreeValue, arms_at, block_at, callee_frame, expr_at, exprs_at, field_frame, frames_of, if_at, kept_term, let_at, link_frame, linked_kind, links_around, names_at, pending_frames, push, scope_at, suffix_frame, suffixes_around, tree_moved, tree_raises, vars_at}
+use Rattle.obq_windows.specs.Trees.{Asks, BlockTask, Callee, ExprTask, Kept, KeptRaising, KeptValue, PendingArguments, PendingAssign, PendingCalled, PendingChain, PendingCount, PendingEach, PendingField, PendingFirst, PendingForeach, PendingForm, PendingGuard, PendingHead, PendingIf, PendingKept, PendingLast, PendingLet, PendingLoop, PendingRaise, PendingRight, PendingTesting, PendingThen, PendingTo, PendingTry, PendingVar, PendingWatch, PendingWithin, PlainEachItem, PlainEachSize, PlainGet, PlainLeave, PlainLineUp, PlainNewVariable, Silent, Stepped, ToArray, ToBuiltin, ToCall, ToIndex, ToInvoke, ToRedirect, ToSetAlias, ToSetIndex, ToSetValue, TreeAct, TreeFrame, TreeHere, TreeRaising, TreeRun, TreeScope, TreeTest, TreeUnder, TreeUnmet, TreeValue, arms_at, block_at, callee_frame, expr_at, exprs_at, field_frame, frames_of, if_at, kept_term, let_at, link_frame, linked_kind, links_around, names_at, pending_frames, push, scope_at, suffix_frame, suffixes_around, tree_moved, tree_raises, vars_at}
 use Rattle.obq_windows.specs.Values.{ClosureValue, ExceptionValue, IntValue, IsMadeTable, LocationValue, OkayValue, PlainValue, Table, TextValue, ThreadValue, TruthValue, proc_of, read_all, read_value, read_values}
 use Rattle.obq_windows.proofs.Around.{asks, found_in, links_frames, pushed, silent, stepped, suffixes_frames, to_here, to_pushed}
 use Rattle.obq_windows.proofs.Begins.{args_right, callee_form, of_term, result_right, suffix_args}
@@ -25,6 +25,7 @@ use Rattle.obq_windows.proofs.Closing.{rest_starts}
 use Rattle.obq_windows.proofs.Envs.{bound_more, names_more}
 use Rattle.obq_windows.proofs.Operators.{operated_is}
 use Rattle.obq_windows.proofs.Results.{closure_cases}
+use Rattle.obq_windows.proofs.Selves.{selfed}
 use Rattle.obq_windows.proofs.Starting.{binds_at, binds_start, if_starts, vars_from}
 use Rattle.obq_windows.proofs.Updates.{target_is}
 
@@ -240,6 +241,41 @@ foreach_given eq T a s (LocationValue Engine z) p x b fs = to_here eq T a s fs _
 foreach_given eq T a s (LocationValue Array r) p x b fs = asks eq T a s fs _ (PlainEachSize r) (TreeScope p x b) refl
 foreach_given eq T a s (ClosureValue t c group index cs) p x b fs = to_here eq T a s fs _ (tree_raises (codes "type")) (closure_cases T (read_values T cs) (proc_of T group index) (λ f. find eq (activations_at a (frames_of T fs)) (self_at s (frames_of T fs)) (Form Foreach (Part (Const f) (Part (scope_at T p x b) End))) ≡ Next (wrong_type)) (λ params body. refl) (λ names G i. refl))
 
+watch_given : {R : Type 0} → (eq : R → R → Bool) (T : Table R) (a : ℕ) (s : Self R) (v : PlainValue R) (p : Place R) (e : ExprTree) (fs : List (TreeFrame R))
+    → Moves eq T a s (plug (frames_of T fs) (Form Watch (Part (Const (read_value T v)) (Part (expr_at T p e) End)))) (give_watch (tree_self s fs) v p e fs)
+watch_given eq T a s (IntValue z) p e fs = to_here eq T a s fs _ (tree_raises (codes "type")) refl
+watch_given eq T a s OkayValue p e fs = to_here eq T a s fs _ (tree_raises (codes "type")) refl
+watch_given eq T a s (TextValue z) p e fs = to_here eq T a s fs _ (tree_raises (codes "type")) refl
+watch_given eq T a s (ExceptionValue z) p e fs = to_here eq T a s fs _ (tree_raises (codes "type")) refl
+watch_given eq T a s (ThreadValue z) p e fs = to_here eq T a s fs _ (tree_raises (codes "type")) refl
+watch_given eq T a s (TruthValue z) p e fs = to_here eq T a s fs _ (tree_raises (codes "type")) refl
+watch_given eq T a s (LocationValue Object z) p e fs = to_here eq T a s fs _ (tree_raises (codes "type")) refl
+watch_given eq T a s (LocationValue Array z) p e fs = to_here eq T a s fs _ (tree_raises (codes "type")) refl
+watch_given eq T a s (LocationValue Variable z) p e fs = to_here eq T a s fs _ (tree_raises (codes "type")) refl
+watch_given eq T a s (LocationValue Writer z) p e fs = to_here eq T a s fs _ (tree_raises (codes "type")) refl
+watch_given eq T a s (LocationValue Engine z) p e fs = to_here eq T a s fs _ (tree_raises (codes "type")) refl
+watch_given eq T a s (ClosureValue t c group index cs) p e fs = to_here eq T a s fs _ (tree_raises (codes "type")) (closure_cases T (read_values T cs) (proc_of T group index) (λ f. find eq (activations_at a (frames_of T fs)) (self_at s (frames_of T fs)) (Form Watch (Part (Const f) (Part (expr_at T p e) End))) ≡ Next (wrong_type)) (λ params body. refl) (λ names G i. refl))
+watch_given {R} eq T a s (LocationValue Condition c) p e fs =
+    subst (λ (u : Self R). Moves eq T a s (plug (frames_of T fs) (Form Watch (Part (Const (Loc Condition c)) (Part (expr_at T p e) End)))) (begin_watch u.object u.plain c p e fs)) (selfed T s fs)
+    (at (self_at s (frames_of T fs)).object (self_at s (frames_of T fs)).plain refl) where
+      at : (o : Option R) (b : Bool) → watching (self_at s (frames_of T fs)).object (self_at s (frames_of T fs)).plain c (expr_at T p e) ≡ watching o b c (expr_at T p e)
+          → Moves eq T a s (plug (frames_of T fs) (Form Watch (Part (Const (Loc Condition c)) (Part (expr_at T p e) End)))) (begin_watch o b c p e fs)
+      at (Some o) false h = to_pushed eq T a s fs _ p (PendingTesting o c e) (TreeRun p (ExprTask e)) h
+      at (Some o) true h = to_here eq T a s fs _ (tree_raises (codes "not_serialized")) h
+      at None b h = to_here eq T a s fs _ (tree_raises (codes "not_serialized")) h
+
+testing_given : {R : Type 0} → (eq : R → R → Bool) (T : Table R) (a : ℕ) (s : Self R) (o c : R) (v : PlainValue R) (p : Place R) (e : ExprTree) (fs : List (TreeFrame R))
+    → Moves eq T a s (plug (frames_of T fs) (Form (Testing o c) (Part (Const (read_value T v)) (Part (expr_at T p e) End)))) (give_testing o c v p e fs)
+testing_given eq T a s o c (TruthValue true) p e fs = to_here eq T a s fs _ (TreeValue OkayValue) refl
+testing_given eq T a s o c (TruthValue false) p e fs = asks eq T a s fs _ (PlainLineUp o c) (TreeTest p e) refl
+testing_given eq T a s o c (IntValue z) p e fs = to_here eq T a s fs _ (tree_raises (codes "type")) refl
+testing_given eq T a s o c OkayValue p e fs = to_here eq T a s fs _ (tree_raises (codes "type")) refl
+testing_given eq T a s o c (TextValue z) p e fs = to_here eq T a s fs _ (tree_raises (codes "type")) refl
+testing_given eq T a s o c (ExceptionValue z) p e fs = to_here eq T a s fs _ (tree_raises (codes "type")) refl
+testing_given eq T a s o c (ThreadValue z) p e fs = to_here eq T a s fs _ (tree_raises (codes "type")) refl
+testing_given eq T a s o c (LocationValue k z) p e fs = to_here eq T a s fs _ (tree_raises (codes "type")) refl
+testing_given eq T a s o c (ClosureValue t n group index cs) p e fs = to_here eq T a s fs _ (tree_raises (codes "type")) (closure_cases T (read_values T cs) (proc_of T group index) (λ f. find eq (activations_at a (frames_of T fs)) (self_at s (frames_of T fs)) (Form (Testing o c) (Part (Const f) (Part (expr_at T p e) End))) ≡ Next (wrong_type)) (λ params body. refl) (λ names G i. refl))
+
 field_given : {R : Type 0} → (eq : R → R → Bool) (T : Table R) (a : ℕ) (s : Self R) → IsMadeTable T → (v : PlainValue R) (p : Place R) (x : Bytes) (body : FieldTree) (fs : List (TreeFrame R))
     → Moves eq T a s (plug (frames_of T fs) (fill (field_frame T p x body) (Const (read_value T v)))) (give_field T (count_activations a fs) v p x body fs)
 field_given eq T a s w v p x (ValueOf e) fs = args_right eq T a s w fs (ToSetValue x) p (v ∷ []) (AnExpr e NoExprs)
@@ -277,6 +313,8 @@ given {R} eq T a s w v p (PendingArguments callee done es) fs =
       one_more ToRedirect = ap (Form Redirect) (values_end done)
       one_more (ToInvoke x) = ap (Form (Invoke x)) (values_end done)
 given eq T a s w v p PendingRaise fs = of_term eq T a s _ _ (give_raise v fs) (one_frame T fs _ _) (raise_given eq T a s v fs)
+given eq T a s w v p (PendingWatch e) fs = of_term eq T a s _ _ (give_watch (tree_self s fs) v p e fs) (one_frame T fs _ _) (watch_given eq T a s v p e fs)
+given eq T a s w v p (PendingTesting o c e) fs = of_term eq T a s _ _ (give_testing o c v p e fs) (one_frame T fs _ _) (testing_given eq T a s o c v p e fs)
 given eq T a s w v p PendingCalled fs = of_term eq T a s _ _ (tree_moved Stepped fs (TreeValue v)) (one_frame T fs _ _) (to_here eq T a s fs _ (TreeValue v) refl)
 given eq T a s w v p (PendingWithin o m) fs = of_term eq T a s _ _ (leave_tree o m (KeptValue v) fs) (one_frame T fs _ _) (left_right eq T a s o m (KeptValue v) fs)
 given eq T a s w v p (PendingTry arms last) fs = of_term eq T a s _ _ (tree_moved Stepped fs (TreeValue v)) (one_frame T fs _ _) (to_here eq T a s fs _ (TreeValue v) (try_value eq (activations_at a (frames_of T fs)) (self_at s (frames_of T fs)) (read_value T v) (arms_at T p arms last)))
