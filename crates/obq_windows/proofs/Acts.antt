@@ -3,15 +3,15 @@ use Rattle.std.specs.Prelude.{Bool, List, None, Option, Some, [], codes, false, 
 use Rattle.std.proofs.Common.{ap, subst, sym, ◌∙◌}
 use Rattle.std.proofs.lemmas.List.{append-nil}
 use Rattle.obq_base.specs.declared.limits.TheConstants.{ARRAY_LIMIT}
-use Rattle.obq_model.specs.Exceptions.{arity, array_limit, call_limit}
+use Rattle.obq_model.specs.Exceptions.{arity, array_limit, call_limit, field_twice}
 use Rattle.obq_model.specs.Step.{CallMethod, EachItem, Found, Frame, Itself, Needs, New, Next, Operation, RunEngine, Self, activations_at, find, fork_of, is_call_limit, params_of, plug, self_at, with_one_parameter}
-use Rattle.obq_model.specs.Store.{ArrayCell}
+use Rattle.obq_model.specs.Store.{ArrayCell, ObjectCell, field_names, twice}
 use Rattle.obq_model.specs.Terms.{Bytes, Const, End, Exn, Invoke, Loc, MakeArray, Object, Okay, Term}
 use Rattle.obq_model.proofs.Among.{true_false}
 use Rattle.obq_model.proofs.Plug.{needs_plug, operands, step_plug}
 use Rattle.obq_windows.specs.Meanings.{Moves}
 use Rattle.obq_windows.specs.Moves.{act_ends, count_activations, tree_act, with_a_parameter, without_parameter}
-use Rattle.obq_windows.specs.Trees.{Kept, KeptRaising, KeptValue, PlainAgain, PlainBroadcast, PlainEachItem, PlainEachSize, PlainExport, PlainForkOff, PlainGet, PlainGiveUp, PlainImport, PlainInvoke, PlainItemOf, PlainJoin, PlainLeave, PlainLineUp, PlainNewArray, PlainNewCondition, PlainNewEngine, PlainNewVariable, PlainOperation, PlainRead, PlainRedirect, PlainRunEngine, PlainSetAlias, PlainSetItem, PlainSetValue, PlainSetVariable, PlainSignal, PlainSize, PlainWrite, TreeAct, TreeAfter, TreeFrame, TreeRaising, TreeValue, act_form, frames_of, kept_term, read_operation, scope_after, term_of}
+use Rattle.obq_windows.specs.Trees.{Kept, KeptRaising, KeptValue, PlainAgain, PlainBroadcast, PlainCloning, PlainEachItem, PlainEachSize, PlainExport, PlainField, PlainForkOff, PlainGet, PlainGiveUp, PlainImport, PlainInvoke, PlainItemOf, PlainJoin, PlainLeave, PlainLineUp, PlainNewArray, PlainNewCondition, PlainNewEngine, PlainNewVariable, PlainOperation, PlainRead, PlainRedirect, PlainRunEngine, PlainSetAlias, PlainSetItem, PlainSetValue, PlainSetVariable, PlainSignal, PlainSize, PlainWrite, TreeAct, TreeAfter, TreeFrame, TreeRaising, TreeValue, act_form, frames_of, kept_term, plain_names, read_fields, read_operation, scope_after, term_of}
 use Rattle.obq_windows.specs.Values.{IsMadeTable, OkayValue, Table, read_all, read_value, tree_params}
 use Rattle.obq_windows.proofs.Around.{are_frames, asks, found_in, to_here}
 use Rattle.obq_windows.proofs.Calls.{length_read, value_params}
@@ -21,6 +21,10 @@ use Rattle.obq_windows.proofs.Counts.{counted}
 abbrev pub ActIs : {R : Type 0} → Table R → PlainOperation R → Term R → Found R → Option (Kept R) → Type 0
 ActIs T op scope found None = found ≡ Needs (read_operation T op scope) []
 ActIs T op scope found (Some k) = found ≡ Next (kept_term T k)
+
+names_read : {R : Type 0} → (T : Table R) (fields : List (PlainField R)) → field_names (read_fields T fields) ≡ plain_names fields
+names_read T [] = refl
+names_read T (f ∷ fs) = ap (λ l. f.name ∷ l) (names_read T fs)
 
 pub act_is : {R : Type 0} → (eq : R → R → Bool) (T : Table R) → IsMadeTable T → (a : ℕ) (s : Self R) (op : PlainOperation R) (scope : Term R) → ActIs T op scope (find eq a s (act_form T op scope)) (act_ends (tree_params T) a op)
 act_is {R} eq T w a s (PlainInvoke o x vs) scope = subst (λ (f : Found R). ActIs T (PlainInvoke o x vs) scope f (act_ends (tree_params T) a (PlainInvoke o x vs))) (sym (operands eq a s (Invoke x) [] (Loc Object o ∷ read_all T vs) End (λ i l. refl))) (at (is_call_limit a)) where
@@ -71,6 +75,14 @@ act_is eq T w a s (PlainEachSize r) scope = refl
 act_is eq T w a s (PlainLineUp o c) scope = refl
 act_is eq T w a s (PlainGiveUp o c) scope = refl
 act_is eq T w a s (PlainAgain o c) scope = refl
+act_is eq T w a s (PlainCloning None fields (o ∷ rest)) scope = refl
+act_is eq T w a s (PlainCloning (Some flags) fields (o ∷ rest)) scope = refl
+act_is eq T w a s (PlainCloning None fields []) scope = refl
+act_is {R} eq T w a s (PlainCloning (Some flags) fields []) scope =
+    subst (λ (names : List Bytes). ActIs T (PlainCloning (Some flags) fields []) scope (if twice names then Next field_twice else Needs (New (ObjectCell flags None (read_fields T fields)) Itself) []) (if twice (plain_names fields) then Some (KeptRaising (Exn (codes "field_twice"))) else None)) (sym (names_read T fields)) (at (twice (plain_names fields))) where
+      at : (c : Bool) → ActIs T (PlainCloning (Some flags) fields []) scope (if c then Next field_twice else Needs (New (ObjectCell flags None (read_fields T fields)) Itself) []) (if c then Some (KeptRaising (Exn (codes "field_twice"))) else None)
+      at true = refl
+      at false = refl
 act_is {R} eq T w a s (PlainEachItem r i n) scope = at (i == n) where
   at : (c : Bool) → ActIs T (PlainEachItem r i n) scope (if c then Next (Const Okay) else Needs (EachItem r i n scope) []) (if c then Some (KeptValue OkayValue) else None)
   at true = refl

@@ -24,7 +24,7 @@ use Rattle.obq_windows.specs.Agrees.{Agrees, FramesAre, IsBound, Same, StandsAt,
 use Rattle.obq_windows.specs.Complete.{PlaceLaw}
 use Rattle.obq_windows.specs.Moves.{HintExpr, begin_args, begin_expr, begin_if, begin_proc, begin_suffixes, captured_values, going_on, with_suffixes}
 use Rattle.obq_windows.specs.Places.{Bound, Place, bound_names, env_at, outside_at, writer_at}
-use Rattle.obq_windows.specs.Trees.{BlockTask, ExprTask, PendingChain, PendingFirst, PendingForeach, PendingHead, PendingIf, PendingLast, PendingLoop, PendingRaise, PendingTry, PendingWatch, Silent, Stepped, Tag, ToArray, ToBuiltin, ToRedirect, TreeFrame, TreeMoved, TreeRaising, TreeRun, TreeValue, push, tree_made, tree_moved, tree_raises}
+use Rattle.obq_windows.specs.Trees.{BlockTask, ExprTask, PendingChain, PendingFirst, PendingForeach, PendingHead, PendingIf, PendingLast, PendingLoop, PendingRaise, PendingTry, PendingWatch, Silent, Stepped, Tag, ToArray, ToBuiltin, ToClone, ToRedirect, TreeFrame, TreeMoved, TreeRaising, TreeRun, TreeValue, push, tree_made, tree_moved, tree_raises}
 use Rattle.obq_windows.specs.Values.{ClosureValue, IntValue, OkayValue, PlainValues, Table, TextValue, TruthValue, depth_of_values}
 use Rattle.obq_windows.specs.Windows.{Activation, NodeChain, NodeFirst, NodeForeach, NodeFrame, NodeHead, NodeIf, NodeLast, NodeLoop, NodeMoved, NodeRaise, NodeRaising, NodeRun, NodeTry, NodeValue, NodeWatch, Store, arms_node, begin_node, item_node, node_at, node_made, node_moved, node_raises, suffixes_node, with_item, with_operator, with_suffix}
 use Rattle.obq_windows.proofs.AlikeCalls.{args_alike, as_pair}
@@ -220,5 +220,5 @@ expr_alike T S g a thread count act b bound d w ns fs fr at (ForTree x m l block
 expr_alike T S g a thread count act b bound d w ns fs fr at (ForeachTree x e block place) h = record { numbers = []; hint = tt; same = at_node T S act.code at (n.Foreach) (begin_node S a thread count act ns at b) _ (node_here T S h) (alike T S Silent act b (NodeForeach (S.end act.code (suc at)) b ∷ ns) (NodeRun (suc at) b) (push (place_at act bound) (PendingForeach x block) fs) (TreeRun (place_at act bound) (ExprTask e)) (NodeForeach (S.end act.code (suc at)) b, ns, refl, (S.end act.code (suc at), b, refl, not_above b, (bound, refl, w), second_of T S g (drafted_expr _ _ e) (next_here T S h)), fr) (suc at, refl, (bound, refl, w), first_of T S (next_here T S h))) }
 expr_alike T S g a thread count act b bound d w ns fs fr at (WatchTree c e place) h = record { numbers = []; hint = tt; same = at_node T S act.code at (n.Watch) (begin_node S a thread count act ns at b) _ (node_here T S h) (alike T S Silent act b (NodeWatch (S.end act.code (suc at)) b ∷ ns) (NodeRun (suc at) b) (push (place_at act bound) (PendingWatch e) fs) (TreeRun (place_at act bound) (ExprTask c)) (NodeWatch (S.end act.code (suc at)) b, ns, refl, (S.end act.code (suc at), b, refl, not_above b, (bound, refl, w), second_of T S g (drafted_expr _ _ c) (next_here T S h)), fr) (suc at, refl, (bound, refl, w), first_of T S (next_here T S h))) }
 expr_alike T S g a thread count act b bound d w ns fs fr at (RedirectTree e f place) h = record { numbers = []; hint = tt; same = at_node T S act.code at (n.Redirect) (begin_node S a thread count act ns at b) _ (node_here T S h) (args_alike T S g a act b bound w ns fs fr ToRedirect [] (suc at) (AnExpr e (AnExpr f NoExprs)) (as_pair T S (next_here T S h))) }
-expr_alike T S g a thread count act b bound d w ns fs fr at (CloneTree es place) h = record { numbers = []; hint = tt; same = at_node T S act.code at (n.Clone (count_exprs es)) (begin_node S a thread count act ns at b) _ (node_here T S h) (inl (refl, refl)) }
+expr_alike T S g a thread count act b bound d w ns fs fr at (CloneTree es place) h = record { numbers = []; hint = tt; same = at_node T S act.code at (n.Clone (count_exprs es)) (begin_node S a thread count act ns at b) _ (node_here T S h) (args_alike T S g a act b bound w ns fs fr ToClone [] (suc at) es (next_here T S h)) }
 expr_alike T S g a thread count act b bound d w ns fs fr at (SuffixedTree e ss) h = record { numbers = []; hint = tt; same = suffixed_alike T S g a thread count act b bound w ns fs fr at e ss (called_row (outside_at T (place_at act bound)) (bound_names bound) e ss) refl h }

@@ -14,12 +14,12 @@ use Rattle.obq_model.specs.Step.{is_call_limit}
 use Rattle.obq_model.specs.Terms.{Array, Bytes, Condition, Engine, Object, Variable, Writer}
 use Rattle.obq_model.proofs.Drafted.{drafted_expr}
 use Rattle.obq_windows.specs.Agrees.{AfterIs, Agrees, FocusIs, FramesAre, IsBound, Same, StandsAt, place_at}
-use Rattle.obq_windows.specs.Moves.{act_ends, begin_args, call_code, call_plain, entered, finish_args, tree_act, tree_result}
+use Rattle.obq_windows.specs.Moves.{act_ends, begin_args, call_code, call_plain, clone_tree, entered, finish_args, tree_act, tree_result}
 use Rattle.obq_windows.specs.Places.{Bound, bound_names, bound_values, outside_at, place_of, proc_outside, zipped}
-use Rattle.obq_windows.specs.Results.{Does, Gives, PlainResult, Raises, alias_set, applied, array_made, indexed, invoked, item_set, redirected, value_set}
-use Rattle.obq_windows.specs.Trees.{Asks, BlockTask, Callee, ExprTask, Kept, KeptRaising, KeptValue, PendingArguments, PendingCalled, PlainOperation, PlainRunEngine, Silent, Stepped, ToArray, ToBuiltin, ToCall, ToIndex, ToInvoke, ToRedirect, ToSetAlias, ToSetIndex, ToSetValue, TreeAct, TreeAfter, TreeFrame, TreeHere, TreeRaising, TreeRun, TreeValue, push, tree_moved, tree_raises}
+use Rattle.obq_windows.specs.Results.{Does, Gives, PlainResult, Raises, alias_set, applied, array_made, indexed, invoked, item_set, objects_in, redirected, value_set}
+use Rattle.obq_windows.specs.Trees.{Asks, BlockTask, Callee, ExprTask, Kept, KeptRaising, KeptValue, PendingArguments, PendingCalled, PlainCloning, PlainOperation, PlainRunEngine, Silent, Stepped, ToArray, ToBuiltin, ToCall, ToClone, ToIndex, ToInvoke, ToRedirect, ToSetAlias, ToSetIndex, ToSetValue, TreeAct, TreeAfter, TreeFrame, TreeHere, TreeRaising, TreeRun, TreeValue, push, tree_moved, tree_raises}
 use Rattle.obq_windows.specs.Values.{ClosureValue, ExceptionValue, IntValue, LocationValue, OkayValue, PlainValue, PlainValues, Table, TextValue, ThreadValue, TruthValue, count_in, proc_named, tree_params}
-use Rattle.obq_windows.specs.Windows.{Activation, NodeAct, NodeAfter, NodeArguments, NodeCalled, NodeFrame, NodeHere, NodeRaising, NodeRun, NodeValue, Store, act_node, activation_of, args_node, call_node_code, call_node_plain, code_params, count_in_code, enter_code, finish_node, node_moved, node_params, node_raises, node_result}
+use Rattle.obq_windows.specs.Windows.{Activation, NodeAct, NodeAfter, NodeArguments, NodeCalled, NodeFrame, NodeHere, NodeRaising, NodeRun, NodeValue, Store, act_node, activation_of, args_node, call_node_code, call_node_plain, clone_node, code_params, count_in_code, enter_code, finish_node, node_moved, node_params, node_raises, node_result}
 use Rattle.obq_windows.proofs.Calls.{same_length}
 use Rattle.obq_windows.proofs.Envs.{fun_eq, zipped_names}
 use Rattle.obq_windows.proofs.Frames.{frames_up, in_force}
@@ -142,6 +142,10 @@ result_alike T S act b ns fs fr (Gives v) = alike T S Stepped act b ns (NodeValu
 result_alike T S act b ns fs fr (Raises e) = alike T S Stepped act b ns (node_raises e) fs (tree_raises e) fr refl
 result_alike T S act b ns fs fr (Does op) = alike T S (Asks op) act b ns (NodeAct op NodeHere) fs (TreeAct op TreeHere) fr (NodeHere, refl, refl)
 
+clone_alike : {R : Type 0} → (T : Table R) (S : Store R) (act : Activation R) (b : ℕ) (ns : List (NodeFrame R)) (fs : List (TreeFrame R)) → FramesAre T S act b ns fs → (o : Option (List R)) → Same T S (clone_node o act ns) (clone_tree o fs)
+clone_alike T S act b ns fs fr None = alike T S Stepped act b ns (node_raises (codes "type")) fs (tree_raises (codes "type")) fr refl
+clone_alike T S act b ns fs fr (Some os) = alike T S Stepped act b ns (NodeAct (PlainCloning None [] os) NodeHere) fs (TreeAct (PlainCloning None [] os) TreeHere) fr (NodeHere, refl, refl)
+
 finish_alike : {R : Type 0} → (T : Table R) (S : Store R) → Agrees T S → (a : ℕ) (act : Activation R) (b : ℕ) (bound : List (Bound R)) → IsBound act b bound → (ns : List (NodeFrame R)) (fs : List (TreeFrame R)) → FramesAre T S act b ns fs → (callee : Callee R) (vs : List (PlainValue R))
     → Same T S (finish_node S a callee act vs ns) (finish_args T a callee (place_at act bound) vs fs)
 finish_alike T S g a act b bound w ns fs fr (ToCall f) vs = call_alike T S g a act b bound w ns fs fr f vs
@@ -157,6 +161,7 @@ finish_alike T S g a act b bound w ns fs fr ToSetIndex vs = result_alike T S act
 finish_alike T S g a act b bound w ns fs fr (ToSetValue x) vs = result_alike T S act b ns fs fr (value_set x vs)
 finish_alike T S g a act b bound w ns fs fr (ToSetAlias x y) vs = result_alike T S act b ns fs fr (alias_set x y vs)
 finish_alike T S g a act b bound w ns fs fr ToRedirect vs = result_alike T S act b ns fs fr (redirected vs)
+finish_alike T S g a act b bound w ns fs fr ToClone vs = clone_alike T S act b ns fs fr (objects_in vs)
 finish_alike T S g a act b bound w ns fs fr (ToInvoke x) vs = result_alike T S act b ns fs fr (invoked a x vs)
 
 pub args_alike : {R : Type 0} → (T : Table R) (S : Store R) → Agrees T S → (a : ℕ) (act : Activation R) (b : ℕ) (bound : List (Bound R)) → IsBound act b bound → (ns : List (NodeFrame R)) (fs : List (TreeFrame R)) → FramesAre T S act b ns fs → (callee : Callee R) (done : List (PlainValue R)) (child : ℕ) (es : ExprTrees)

@@ -14,7 +14,7 @@ use Rattle.obq_model.proofs.Plug.{frames_append, needs_plug, plug_append, step_p
 use Rattle.obq_windows.specs.Meanings.{Means, Moves}
 use Rattle.obq_windows.specs.Moves.{with_links, with_suffixes}
 use Rattle.obq_windows.specs.Places.{Place, env_at, outside_at, writer_at}
-use Rattle.obq_windows.specs.Trees.{Asks, Callee, PendingArguments, PendingAssign, PendingCalled, PendingChain, PendingCount, PendingEach, PendingField, PendingFirst, PendingForeach, PendingForm, PendingGuard, PendingHead, PendingIf, PendingKept, PendingLast, PendingLet, PendingLoop, PendingRaise, PendingRight, PendingTesting, PendingThen, PendingTo, PendingTry, PendingVar, PendingWatch, PendingWithin, PlainOperation, Silent, Stepped, Tag, ToArray, ToBuiltin, ToCall, ToIndex, ToInvoke, ToRedirect, ToSetAlias, ToSetIndex, ToSetValue, TreeAct, TreeAfter, TreeFocus, TreeFrame, TreeMoved, callee_frame, expr_at, exprs_at, field_frame, focus_term, frames_of, link_frame, linked_kind, links_around, names_at, pending_frames, push, read_operation, scope_after, suffix_frame, suffixes_around, term_of, tree_moved}
+use Rattle.obq_windows.specs.Trees.{Asks, Callee, PendingArguments, PendingAssign, PendingCalled, PendingChain, PendingCount, PendingEach, PendingField, PendingFirst, PendingForeach, PendingForm, PendingGuard, PendingHead, PendingIf, PendingKept, PendingLast, PendingLet, PendingLoop, PendingRaise, PendingRight, PendingTesting, PendingThen, PendingTo, PendingTry, PendingVar, PendingWatch, PendingWithin, PlainOperation, Silent, Stepped, Tag, ToArray, ToBuiltin, ToCall, ToClone, ToIndex, ToInvoke, ToRedirect, ToSetAlias, ToSetIndex, ToSetValue, TreeAct, TreeAfter, TreeFocus, TreeFrame, TreeMoved, callee_frame, expr_at, exprs_at, field_frame, focus_term, frames_of, link_frame, linked_kind, links_around, names_at, pending_frames, push, read_operation, scope_after, suffix_frame, suffixes_around, term_of, tree_moved}
 use Rattle.obq_windows.specs.Values.{PlainValue, Table}
 
 -- a frame whose hole is its first part
@@ -47,6 +47,7 @@ callee_is_frame T (ToCall f) done after = λ i l. refl
 callee_is_frame T (ToBuiltin row) done after = λ i l. refl
 callee_is_frame T ToArray done after = λ i l. refl
 callee_is_frame T ToIndex done after = λ i l. refl
+callee_is_frame T ToClone done after = λ i l. refl
 callee_is_frame T ToSetIndex done after = λ i l. refl
 callee_is_frame T (ToSetValue x) done after = λ i l. refl
 callee_is_frame T (ToSetAlias x y) done after = λ i l. refl
@@ -205,6 +206,7 @@ callee_passes T (ToCall f) done after = (refl, tt)
 callee_passes T (ToBuiltin row) done after = (refl, tt)
 callee_passes T ToArray done after = (refl, tt)
 callee_passes T ToIndex done after = (refl, tt)
+callee_passes T ToClone done after = (refl, tt)
 callee_passes T ToSetIndex done after = (refl, tt)
 callee_passes T (ToSetValue x) done after = (refl, tt)
 callee_passes T (ToSetAlias x y) done after = (refl, tt)

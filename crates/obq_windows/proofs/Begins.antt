@@ -7,15 +7,15 @@ use Rattle.obq_base.specs.declared.limits.TheConstants.{ARRAY_LIMIT}
 use Rattle.obq_model.specs.Builtins.{arity_of_builtin}
 use Rattle.obq_model.specs.Exceptions.{arity, array_limit, call_limit, raise}
 use Rattle.obq_model.specs.Opened.{builtin_at}
-use Rattle.obq_model.specs.Step.{CallMethod, Found, Itself, Needs, New, Next, Self, activations_at, apply, call, call_value, fill, is_call_limit, plug, row, self_at, values_before}
+use Rattle.obq_model.specs.Step.{CallMethod, Found, Itself, Needs, New, Next, Self, activations_at, apply, call, call_value, clone, fill, is_call_limit, plug, row, self_at, values_before}
 use Rattle.obq_model.specs.Store.{ArrayCell}
-use Rattle.obq_model.specs.Terms.{Apply, Array, Bytes, Call, Condition, End, Engine, Form, Index, Invoke, MakeArray, Object, Part, Parts, Redirect, SetAlias, SetIndex, SetValue, Term, Variable, Writer}
+use Rattle.obq_model.specs.Terms.{Apply, Array, Bytes, Call, Clone, Condition, End, Engine, Form, Index, Invoke, MakeArray, Object, Part, Parts, Redirect, SetAlias, SetIndex, SetValue, Term, Variable, Writer}
 use Rattle.obq_model.proofs.Plug.{operands}
 use Rattle.obq_windows.specs.Meanings.{Moves}
-use Rattle.obq_windows.specs.Moves.{begin_args, call_code, call_plain, count_activations, finish_args, tree_result, with_suffixes}
+use Rattle.obq_windows.specs.Moves.{begin_args, call_code, call_plain, clone_tree, count_activations, finish_args, tree_result, with_suffixes}
 use Rattle.obq_windows.specs.Places.{Place}
-use Rattle.obq_windows.specs.Results.{Does, Gives, PlainResult, Raises, alias_set, applied, array_made, indexed, invoked, item_set, redirected, value_set}
-use Rattle.obq_windows.specs.Trees.{Callee, ExprTask, PendingArguments, PlainInvoke, PlainNewArray, PlainRunEngine, Silent, Stepped, ToArray, ToBuiltin, ToCall, ToIndex, ToInvoke, ToRedirect, ToSetAlias, ToSetIndex, ToSetValue, TreeFrame, TreeHere, TreeMoved, TreeRun, TreeValue, callee_frame, expr_at, exprs_at, frames_of, push, tree_moved, tree_raises}
+use Rattle.obq_windows.specs.Results.{Does, Gives, PlainResult, Raises, alias_set, applied, array_made, indexed, invoked, item_set, objects_in, redirected, value_set}
+use Rattle.obq_windows.specs.Trees.{Callee, ExprTask, PendingArguments, PlainCloning, PlainInvoke, PlainNewArray, PlainRunEngine, Silent, Stepped, ToArray, ToBuiltin, ToCall, ToClone, ToIndex, ToInvoke, ToRedirect, ToSetAlias, ToSetIndex, ToSetValue, TreeAct, TreeFrame, TreeHere, TreeMoved, TreeRun, TreeValue, callee_frame, expr_at, exprs_at, frames_of, push, tree_moved, tree_raises}
 use Rattle.obq_windows.specs.Values.{ClosureValue, ExceptionValue, IntValue, IsMadeTable, LocationValue, OkayValue, PlainValue, Table, TextValue, ThreadValue, TruthValue, closure_of, proc_named, proc_of, read_all, read_value, read_values, tree_params}
 use Rattle.obq_windows.proofs.Acts.{act_from}
 use Rattle.obq_windows.proofs.Around.{asks, found_in, pushed, silent, to_here}
@@ -23,7 +23,7 @@ use Rattle.obq_windows.proofs.BuiltIns.{applied_is}
 use Rattle.obq_windows.proofs.Calls.{callable, entered_right, length_read}
 use Rattle.obq_windows.proofs.Counts.{counted}
 use Rattle.obq_windows.proofs.Results.{ResultIs, closure_cases}
-use Rattle.obq_windows.proofs.Updates.{alias_set_is, item_set_is, redirected_is, value_set_is}
+use Rattle.obq_windows.proofs.Updates.{alias_set_is, cloned_is, item_set_is, redirected_is, value_set_is}
 
 -- the same of a term that is spelled in another way
 pub of_term : {R : Type 0} → (eq : R → R → Bool) (T : Table R) (a : ℕ) (s : Self R) (t u : Term R) (m : TreeMoved R) → t ≡ u → Moves eq T a s u m → Moves eq T a s t m
@@ -83,6 +83,7 @@ callee_form T (ToCall f) done after = Form Call (values_before (read_value T f �
 callee_form T (ToBuiltin row) done after = Form (Apply (builtin_at row)) (values_before (read_all T done) after)
 callee_form T ToArray done after = Form MakeArray (values_before (read_all T done) after)
 callee_form T ToIndex done after = Form Index (values_before (read_all T done) after)
+callee_form T ToClone done after = Form Clone (values_before (read_all T done) after)
 callee_form T ToSetIndex done after = Form SetIndex (values_before (read_all T done) after)
 callee_form T (ToSetValue x) done after = Form (SetValue x) (values_before (read_all T done) after)
 callee_form T (ToSetAlias x y) done after = Form (SetAlias x y) (values_before (read_all T done) after)
@@ -144,6 +145,10 @@ invoked_is {R} eq T a s x (LocationValue Object o ∷ vs) = at (is_call_limit a)
   at true = refl
   at false = refl
 
+clone_right : {R : Type 0} → (eq : R → R → Bool) (T : Table R) (a : ℕ) (s : Self R) (fs : List (TreeFrame R)) (t : Term R) (o : Option (List R)) → found_in eq T a s fs t ≡ Next (clone o) → Moves eq T a s (plug (frames_of T fs) t) (clone_tree o fs)
+clone_right eq T a s fs t None h = to_here eq T a s fs t (tree_raises (codes "type")) h
+clone_right eq T a s fs t (Some os) h = to_here eq T a s fs t (TreeAct (PlainCloning None [] os) TreeHere) h
+
 finish_right : {R : Type 0} → (eq : R → R → Bool) (T : Table R) (a : ℕ) (s : Self R) → IsMadeTable T → (fs : List (TreeFrame R)) (callee : Callee R) (p : Place R) (vs : List (PlainValue R)) → Moves eq T a s (plug (frames_of T fs) (callee_form T callee vs End)) (finish_args T (count_activations a fs) callee p vs fs)
 finish_right eq T a s w fs (ToCall f) p vs =
     call_right eq T a s w fs _ f p vs (operands eq (activations_at a (frames_of T fs)) (self_at s (frames_of T fs)) Call [] (read_value T f ∷ read_all T vs) End (λ i l. refl))
@@ -173,6 +178,8 @@ finish_right eq T a s w fs (ToSetAlias x y) p vs =
     result_right eq T a s fs _ _ (alias_set x y vs) (operands eq (activations_at a (frames_of T fs)) (self_at s (frames_of T fs)) (SetAlias x y) [] (read_all T vs) End (λ i l. refl)) (alias_set_is eq T (activations_at a (frames_of T fs)) (self_at s (frames_of T fs)) x y vs)
 finish_right eq T a s w fs ToRedirect p vs =
     result_right eq T a s fs _ _ (redirected vs) (operands eq (activations_at a (frames_of T fs)) (self_at s (frames_of T fs)) Redirect [] (read_all T vs) End (λ i l. refl)) (redirected_is eq T (activations_at a (frames_of T fs)) (self_at s (frames_of T fs)) vs)
+finish_right eq T a s w fs ToClone p vs =
+    clone_right eq T a s fs _ (objects_in vs) (operands eq (activations_at a (frames_of T fs)) (self_at s (frames_of T fs)) Clone [] (read_all T vs) End (λ i l. refl) ∙ cloned_is eq T (activations_at a (frames_of T fs)) (self_at s (frames_of T fs)) vs)
 finish_right {R} eq T a s w fs (ToInvoke x) p vs =
     subst (λ (n : ℕ). Moves eq T a s (plug (frames_of T fs) (Form (Invoke x) (values_before (read_all T vs) End))) (tree_result (invoked n x vs) fs)) (counted T a fs)
     (result_right eq T a s fs _ _ (invoked (activations_at a (frames_of T fs)) x vs) (operands eq (activations_at a (frames_of T fs)) (self_at s (frames_of T fs)) (Invoke x) [] (read_all T vs) End (λ i l. refl))
@@ -193,6 +200,7 @@ args_right {R} eq T a s w fs callee p done (AnExpr e es) =
       filled (ToBuiltin row) = refl
       filled ToArray = refl
       filled ToIndex = refl
+      filled ToClone = refl
       filled ToSetIndex = refl
       filled (ToSetValue x) = refl
       filled (ToSetAlias x y) = refl

@@ -8,7 +8,7 @@ use Rattle.obq_model.specs.Terms.{Bytes}
 use Rattle.obq_model.proofs.Plug.{activations_append}
 use Rattle.obq_windows.specs.Moves.{count_activations, is_activation}
 use Rattle.obq_windows.specs.Places.{Place}
-use Rattle.obq_windows.specs.Trees.{PendingArguments, PendingAssign, PendingCalled, PendingChain, PendingCount, PendingEach, PendingField, PendingFirst, PendingForeach, PendingForm, PendingGuard, PendingHead, PendingIf, PendingKept, PendingLast, PendingLet, PendingLoop, PendingRaise, PendingRight, PendingTesting, PendingThen, PendingTo, PendingTry, PendingVar, PendingWatch, PendingWithin, ToArray, ToBuiltin, ToCall, ToIndex, ToInvoke, ToRedirect, ToSetAlias, ToSetIndex, ToSetValue, TreeFrame, field_frame, frames_of, link_frame, links_around, pending_frames, suffix_frame, suffixes_around}
+use Rattle.obq_windows.specs.Trees.{PendingArguments, PendingAssign, PendingCalled, PendingChain, PendingCount, PendingEach, PendingField, PendingFirst, PendingForeach, PendingForm, PendingGuard, PendingHead, PendingIf, PendingKept, PendingLast, PendingLet, PendingLoop, PendingRaise, PendingRight, PendingTesting, PendingThen, PendingTo, PendingTry, PendingVar, PendingWatch, PendingWithin, ToArray, ToBuiltin, ToCall, ToClone, ToIndex, ToInvoke, ToRedirect, ToSetAlias, ToSetIndex, ToSetValue, TreeFrame, field_frame, frames_of, link_frame, links_around, pending_frames, suffix_frame, suffixes_around}
 use Rattle.obq_windows.specs.Values.{Table}
 
 count_links : {R : Type 0} → (T : Table R) (a : ℕ) (p : Place R) (links : LinkTrees) → activations_at a (links_around T p links) ≡ a
@@ -46,6 +46,7 @@ count_pend T a p (PendingArguments (ToCall f) done es) = refl
 count_pend T a p (PendingArguments (ToBuiltin row) done es) = refl
 count_pend T a p (PendingArguments ToArray done es) = refl
 count_pend T a p (PendingArguments ToIndex done es) = refl
+count_pend T a p (PendingArguments ToClone done es) = refl
 count_pend T a p (PendingArguments ToSetIndex done es) = refl
 count_pend T a p (PendingArguments (ToSetValue x) done es) = refl
 count_pend T a p (PendingArguments (ToSetAlias x y) done es) = refl

@@ -10,14 +10,14 @@ use Rattle.obq_model.specs.Opened.{builtin_at, open_binds, open_block, open_item
 use Rattle.obq_model.specs.Put.{enter}
 use Rattle.obq_model.specs.Reading.{Env, hide, read}
 use Rattle.obq_model.specs.Step.{Frame, Next, Self, activations_at, choose, counting, fill, find, find_part, plug, self_at, values_before, watching}
-use Rattle.obq_model.specs.Terms.{AndIf, Apply, Array, Bytes, Call, Choosing, Condition, Const, Counting, End, Engine, Exc, For, Foreach, Form, Held, If, Index, Inner, Int, Invoke, Kind, Let, Loc, MakeArray, Mode, Object, Okay, OrIf, Part, Parts, Plain, Raise, Redirect, Select, SetAlias, SetIndex, SetValue, Term, Testing, Truth, Try, Under, Value, Var, Variable, Watch, Within, Writer}
+use Rattle.obq_model.specs.Terms.{AndIf, Apply, Array, Bytes, Call, Choosing, Clone, Condition, Const, Counting, End, Engine, Exc, For, Foreach, Form, Held, If, Index, Inner, Int, Invoke, Kind, Let, Loc, MakeArray, Mode, Object, Okay, OrIf, Part, Parts, Plain, Raise, Redirect, Select, SetAlias, SetIndex, SetValue, Term, Testing, Truth, Try, Under, Value, Var, Variable, Watch, Within, Writer}
 use Rattle.obq_model.proofs.Plug.{plug_append}
 use Rattle.obq_model.proofs.PutRead.{put_read}
 use Rattle.obq_windows.specs.Meanings.{Moves}
 use Rattle.obq_windows.specs.Moves.{begin_args, begin_arms, begin_binds, begin_count, begin_if, begin_rest, begin_watch, count_activations, count_at, give_and, give_field, give_foreach, give_guard, give_if, give_left, give_or, give_pending, give_raise, give_suffix, give_testing, give_to, give_watch, going_on, leave_tree, next_count, target_value, tree_result, tree_self, with_links, with_suffixes}
 use Rattle.obq_windows.specs.Places.{Place, bind_of, env_at, outside_at, with_bound, writer_at}
 use Rattle.obq_windows.specs.Results.{assigned, operated}
-use Rattle.obq_windows.specs.Trees.{Asks, BlockTask, Callee, ExprTask, Kept, KeptRaising, KeptValue, PendingArguments, PendingAssign, PendingCalled, PendingChain, PendingCount, PendingEach, PendingField, PendingFirst, PendingForeach, PendingForm, PendingGuard, PendingHead, PendingIf, PendingKept, PendingLast, PendingLet, PendingLoop, PendingRaise, PendingRight, PendingTesting, PendingThen, PendingTo, PendingTry, PendingVar, PendingWatch, PendingWithin, PlainEachItem, PlainEachSize, PlainGet, PlainLeave, PlainLineUp, PlainNewVariable, Silent, Stepped, ToArray, ToBuiltin, ToCall, ToIndex, ToInvoke, ToRedirect, ToSetAlias, ToSetIndex, ToSetValue, TreeAct, TreeFrame, TreeHere, TreeRaising, TreeRun, TreeScope, TreeTest, TreeUnder, TreeUnmet, TreeValue, arms_at, block_at, callee_frame, expr_at, exprs_at, field_frame, frames_of, if_at, kept_term, let_at, link_frame, linked_kind, links_around, names_at, pending_frames, push, scope_at, suffix_frame, suffixes_around, tree_moved, tree_raises, vars_at}
+use Rattle.obq_windows.specs.Trees.{Asks, BlockTask, Callee, ExprTask, Kept, KeptRaising, KeptValue, PendingArguments, PendingAssign, PendingCalled, PendingChain, PendingCount, PendingEach, PendingField, PendingFirst, PendingForeach, PendingForm, PendingGuard, PendingHead, PendingIf, PendingKept, PendingLast, PendingLet, PendingLoop, PendingRaise, PendingRight, PendingTesting, PendingThen, PendingTo, PendingTry, PendingVar, PendingWatch, PendingWithin, PlainEachItem, PlainEachSize, PlainGet, PlainLeave, PlainLineUp, PlainNewVariable, Silent, Stepped, ToArray, ToBuiltin, ToCall, ToClone, ToIndex, ToInvoke, ToRedirect, ToSetAlias, ToSetIndex, ToSetValue, TreeAct, TreeFrame, TreeHere, TreeRaising, TreeRun, TreeScope, TreeTest, TreeUnder, TreeUnmet, TreeValue, arms_at, block_at, callee_frame, expr_at, exprs_at, field_frame, frames_of, if_at, kept_term, let_at, link_frame, linked_kind, links_around, names_at, pending_frames, push, scope_at, suffix_frame, suffixes_around, tree_moved, tree_raises, vars_at}
 use Rattle.obq_windows.specs.Values.{ClosureValue, ExceptionValue, IntValue, IsMadeTable, LocationValue, OkayValue, PlainValue, Table, TextValue, ThreadValue, TruthValue, proc_of, read_all, read_value, read_values}
 use Rattle.obq_windows.proofs.Around.{asks, found_in, links_frames, pushed, silent, stepped, suffixes_frames, to_here, to_pushed}
 use Rattle.obq_windows.proofs.Begins.{args_right, callee_form, of_term, result_right, suffix_args}
@@ -307,6 +307,7 @@ given {R} eq T a s w v p (PendingArguments callee done es) fs =
       one_more (ToBuiltin r) = ap (Form (Apply (builtin_at r))) (values_end done)
       one_more ToArray = ap (Form MakeArray) (values_end done)
       one_more ToIndex = ap (Form Index) (values_end done)
+      one_more ToClone = ap (Form Clone) (values_end done)
       one_more ToSetIndex = ap (Form SetIndex) (values_end done)
       one_more (ToSetValue x) = ap (Form (SetValue x)) (values_end done)
       one_more (ToSetAlias x y) = ap (Form (SetAlias x y)) (values_end done)

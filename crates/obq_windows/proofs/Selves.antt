@@ -8,7 +8,7 @@ use Rattle.obq_model.specs.Terms.{Bytes}
 use Rattle.obq_model.proofs.Plug.{self_append}
 use Rattle.obq_windows.specs.Moves.{self_by, tree_self}
 use Rattle.obq_windows.specs.Places.{Place}
-use Rattle.obq_windows.specs.Trees.{PendingArguments, PendingAssign, PendingCalled, PendingChain, PendingCount, PendingEach, PendingField, PendingFirst, PendingForeach, PendingForm, PendingGuard, PendingHead, PendingIf, PendingKept, PendingLast, PendingLet, PendingLoop, PendingRaise, PendingRight, PendingTesting, PendingThen, PendingTo, PendingTry, PendingVar, PendingWatch, PendingWithin, ToArray, ToBuiltin, ToCall, ToIndex, ToInvoke, ToRedirect, ToSetAlias, ToSetIndex, ToSetValue, TreeFrame, field_frame, frames_of, link_frame, links_around, pending_frames, suffix_frame, suffixes_around}
+use Rattle.obq_windows.specs.Trees.{PendingArguments, PendingAssign, PendingCalled, PendingChain, PendingCount, PendingEach, PendingField, PendingFirst, PendingForeach, PendingForm, PendingGuard, PendingHead, PendingIf, PendingKept, PendingLast, PendingLet, PendingLoop, PendingRaise, PendingRight, PendingTesting, PendingThen, PendingTo, PendingTry, PendingVar, PendingWatch, PendingWithin, ToArray, ToBuiltin, ToCall, ToClone, ToIndex, ToInvoke, ToRedirect, ToSetAlias, ToSetIndex, ToSetValue, TreeFrame, field_frame, frames_of, link_frame, links_around, pending_frames, suffix_frame, suffixes_around}
 use Rattle.obq_windows.specs.Values.{Table}
 
 selves_links : {R : Type 0} → (T : Table R) (a : Self R) (p : Place R) (links : LinkTrees) → self_at a (links_around T p links) ≡ a
@@ -46,6 +46,7 @@ selves_pend T a p (PendingArguments (ToCall f) done es) = refl
 selves_pend T a p (PendingArguments (ToBuiltin row) done es) = refl
 selves_pend T a p (PendingArguments ToArray done es) = refl
 selves_pend T a p (PendingArguments ToIndex done es) = refl
+selves_pend T a p (PendingArguments ToClone done es) = refl
 selves_pend T a p (PendingArguments ToSetIndex done es) = refl
 selves_pend T a p (PendingArguments (ToSetValue x) done es) = refl
 selves_pend T a p (PendingArguments (ToSetAlias x y) done es) = refl

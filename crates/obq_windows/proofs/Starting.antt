@@ -1,7 +1,7 @@
 -- A task that begins.
 use Rattle.std.specs.Prelude.{Bool, List, None, Option, Some, [], codes, false, if◌then◌else◌, option_map, refl, true, ℕ, ◌≡◌}
 use Rattle.std.proofs.Common.{ap, subst, sym, ◌∙◌}
-use Rattle.obq_base.specs.Tree.{ABind, ABlock, ASuffix, AnArm, AnExpr, AnItem, ApplySuffix, ArmTrees, ArrayTree, AssignItem, BindTrees, BlockOf, BlockTree, ChainTree, ExitTree, ExprTree, FieldItem, FieldTree, FinallyTree, ForTree, ForeachTree, IfTree, IndexItem, IndexSuffix, IntTree, InvokeSuffix, ItemTrees, LetItem, LetRecItem, LinkTrees, LoopTree, MaybeBlock, NameTree, NoArms, NoBinds, NoBlock, NoExprs, NoItems, NoSuffixes, OkTree, PlainItem, ProcTree, RaiseTree, RedirectTree, SelectSuffix, SuffixTrees, SuffixedTree, TextTree, TruthTree, TryTree, VarItem, WatchTree}
+use Rattle.obq_base.specs.Tree.{ABind, ABlock, ASuffix, AnArm, AnExpr, AnItem, ApplySuffix, ArmTrees, ArrayTree, AssignItem, BindTrees, BlockOf, BlockTree, ChainTree, CloneTree, ExitTree, ExprTree, FieldItem, FieldTree, FinallyTree, ForTree, ForeachTree, IfTree, IndexItem, IndexSuffix, IntTree, InvokeSuffix, ItemTrees, LetItem, LetRecItem, LinkTrees, LoopTree, MaybeBlock, NameTree, NoArms, NoBinds, NoBlock, NoExprs, NoItems, NoSuffixes, OkTree, PlainItem, ProcTree, RaiseTree, RedirectTree, SelectSuffix, SuffixTrees, SuffixedTree, TextTree, TruthTree, TryTree, VarItem, WatchTree}
 use Rattle.obq_base.specs.declared.code.CodeNo.{CodeNo}
 use Rattle.obq_model.specs.Draft.{called_row}
 use Rattle.obq_model.specs.Opened.{builtin_at, open_binds, open_called, open_expr, open_exprs, open_items, open_suffixes}
@@ -14,7 +14,7 @@ use Rattle.obq_model.proofs.Plug.{plug_append}
 use Rattle.obq_windows.specs.Meanings.{Moves}
 use Rattle.obq_windows.specs.Moves.{HintExpr, HintItems, HintTask, begin_args, begin_binds, begin_block, begin_expr, begin_if, begin_items, begin_name, begin_suffixes, begin_task, begin_vars, count_activations, going_on, used, with_items, with_suffixes}
 use Rattle.obq_windows.specs.Places.{Place, env_at, outside_at, value_of, writer_at}
-use Rattle.obq_windows.specs.Trees.{BlockTask, ExprTask, ItemsTask, PendingAssign, PendingField, PendingFirst, PendingForeach, PendingHead, PendingIf, PendingLast, PendingLet, PendingLoop, PendingRaise, PendingThen, PendingTry, PendingVar, PendingWatch, PlainRead, Silent, Tag, Task, ToArray, ToBuiltin, ToRedirect, ToSetIndex, TreeFrame, TreeHere, TreeRaising, TreeRun, TreeValue, block_at, expr_at, exprs_at, field_frame, frames_of, if_at, items_at, links_around, names_at, pending_frames, push, suffixes_around, target_at, task_term, tree_moved, tree_raises}
+use Rattle.obq_windows.specs.Trees.{BlockTask, ExprTask, ItemsTask, PendingAssign, PendingField, PendingFirst, PendingForeach, PendingHead, PendingIf, PendingLast, PendingLet, PendingLoop, PendingRaise, PendingThen, PendingTry, PendingVar, PendingWatch, PlainRead, Silent, Tag, Task, ToArray, ToBuiltin, ToClone, ToRedirect, ToSetIndex, TreeFrame, TreeHere, TreeRaising, TreeRun, TreeValue, block_at, expr_at, exprs_at, field_frame, frames_of, if_at, items_at, links_around, names_at, pending_frames, push, suffixes_around, target_at, task_term, tree_moved, tree_raises}
 use Rattle.obq_windows.specs.Values.{ClosureValue, ExceptionValue, IntValue, IsMadeTable, LocationValue, OkayValue, PlainValue, Table, TextValue, ThreadValue, TruthValue, proc_of, read_value, read_values}
 use Rattle.obq_windows.proofs.Around.{Starts, asks, chain_read, field_read, here, links_frames, pushed, silent, suffixes_frames, suffixes_read, to_here, to_pushed}
 use Rattle.obq_windows.proofs.Begins.{args_right, of_term, suffix_args}
@@ -104,6 +104,7 @@ expr_begins eq T a s w thread count numbers p (ExitTree place) fs h = to_here eq
 expr_begins eq T a s w thread count numbers p (TryTree b arms last place) fs h = silent eq T a s fs _ (tree_moved Silent (push p (PendingTry arms last) fs) (TreeRun p (BlockTask b))) (record { tag_is = refl; leads = pushed T fs p (PendingTry arms last) (TreeRun p (BlockTask b)) _ refl })
 expr_begins eq T a s w thread count numbers p (FinallyTree b last place) fs h = silent eq T a s fs _ (tree_moved Silent (push p (PendingLast last) fs) (TreeRun p (BlockTask b))) (record { tag_is = refl; leads = pushed T fs p (PendingLast last) (TreeRun p (BlockTask b)) _ refl })
 expr_begins eq T a s w thread count numbers p (RaiseTree e place) fs h = silent eq T a s fs _ (tree_moved Silent (push p PendingRaise fs) (TreeRun p (ExprTask e))) (record { tag_is = refl; leads = pushed T fs p PendingRaise (TreeRun p (ExprTask e)) _ refl })
+expr_begins eq T a s w thread count numbers p (CloneTree es place) fs h = args_right eq T a s w fs ToClone p [] es
 expr_begins eq T a s w thread count numbers p (RedirectTree o q place) fs h = args_right eq T a s w fs ToRedirect p [] (AnExpr o (AnExpr q NoExprs))
 expr_begins eq T a s w thread count numbers p (ChainTree e links) fs h =
     of_term eq T a s _ _ (going_on Silent p links e fs) (ap (plug (frames_of T fs)) (chain_read T p links (open_expr (writer_at T p) (outside_at T p) (names_at p) e))) (silent eq T a s fs _ (going_on Silent p links e fs) (chain_starts T fs Silent p links e))

@@ -1,14 +1,15 @@
 -- Forms of which all operands are values: updates, and a redirection.
 use Rattle.std.specs.Prelude.{Bool, List, None, Option, Some, [], codes, false, if◌then◌else◌, option_map, refl, true, ℕ, ◌∷◌, ◌≡◌}
+use Rattle.std.proofs.Common.{ap, ◌∙◌}
 use Rattle.obq_model.specs.Exceptions.{raise}
 use Rattle.obq_model.specs.Put.{occurrence}
 use Rattle.obq_model.specs.Reading.{name_or, read}
 use Rattle.obq_model.specs.Scopes.{is_covered}
-use Rattle.obq_model.specs.Step.{Next, Self, row}
-use Rattle.obq_model.specs.Terms.{Array, Assign, Bytes, Condition, Const, End, Engine, Loc, Name, Object, Part, Redirect, SetAlias, SetIndex, SetValue, Variable, Writer}
+use Rattle.obq_model.specs.Step.{Next, Self, clone, object_before, objects, row}
+use Rattle.obq_model.specs.Terms.{Array, Assign, Bytes, Clone, Condition, Const, End, Engine, Loc, Name, Object, Part, Redirect, SetAlias, SetIndex, SetValue, Variable, Writer}
 use Rattle.obq_windows.specs.Moves.{target_value, value_or_okay}
 use Rattle.obq_windows.specs.Places.{Place, env_at, outside_at, value_of, writer_at}
-use Rattle.obq_windows.specs.Results.{alias_set, assigned, item_set, redirected, value_set}
+use Rattle.obq_windows.specs.Results.{alias_set, assigned, item_set, object_first, objects_in, redirected, value_set}
 use Rattle.obq_windows.specs.Trees.{names_at, target_at}
 use Rattle.obq_windows.specs.Values.{ClosureValue, ExceptionValue, IntValue, LocationValue, OkayValue, PlainValue, Table, TextValue, ThreadValue, TruthValue, proc_of, read_all, read_value, read_values}
 use Rattle.obq_windows.proofs.Results.{ResultIs, closure_cases}
@@ -121,6 +122,30 @@ redirected_is eq T a s ((LocationValue Object r0) ∷ (LocationValue Engine y) �
 redirected_is eq T a s ((LocationValue Object r0) ∷ (ClosureValue ty cy gy iy csy) ∷ vs) = closure_cases T (read_values T csy) (proc_of T gy iy) (λ f. row eq a s Redirect (read_value T (LocationValue Object r0) ∷ f ∷ read_all T vs) End ≡ Next (raise (codes "type"))) (λ params body. refl) (λ names G i. refl)
 redirected_is eq T a s ((LocationValue Object r0) ∷ (LocationValue Object r1) ∷ []) = refl
 redirected_is eq T a s ((LocationValue Object r0) ∷ (LocationValue Object r1) ∷ z ∷ vs) = refl
+
+-- the objects of a clone
+object_read : {R : Type 0} → (T : Table R) (v : PlainValue R) (os : Option (List R)) → object_before (read_value T v) os ≡ object_first v os
+object_read T (LocationValue Object o) None = refl
+object_read T (LocationValue Object o) (Some os) = refl
+object_read T (IntValue y) os = refl
+object_read T (TruthValue y) os = refl
+object_read T OkayValue os = refl
+object_read T (TextValue y) os = refl
+object_read T (ExceptionValue y) os = refl
+object_read T (ThreadValue y) os = refl
+object_read T (LocationValue Array y) os = refl
+object_read T (LocationValue Variable y) os = refl
+object_read T (LocationValue Writer y) os = refl
+object_read T (LocationValue Condition y) os = refl
+object_read T (LocationValue Engine y) os = refl
+object_read {R} T (ClosureValue ty cy gy iy csy) os = closure_cases T (read_values T csy) (proc_of T gy iy) (λ f. object_before f os ≡ None) (λ params body. refl) (λ names G i. refl)
+
+pub objects_read : {R : Type 0} → (T : Table R) (vs : List (PlainValue R)) → objects (read_all T vs) ≡ objects_in vs
+objects_read T [] = refl
+objects_read T (v ∷ vs) = ap (object_before (read_value T v)) (objects_read T vs) ∙ object_read T v (objects_in vs)
+
+pub cloned_is : {R : Type 0} → (eq : R → R → Bool) (T : Table R) (a : ℕ) (s : Self R) (vs : List (PlainValue R)) → row eq a s Clone (read_all T vs) End ≡ Next (clone (objects_in vs))
+cloned_is eq T a s vs = ap (λ (o : Option (List _)). Next (clone o)) (objects_read T vs)
 
 -- an assignment to what stands at the name
 assigned_is : {R : Type 0} → (eq : R → R → Bool) (T : Table R) (a : ℕ) (s : Self R) (u v : PlainValue R) → ResultIs T (row eq a s Assign (read_value T v ∷ []) (Part (occurrence (read_value T u)) End)) (assigned u v)
