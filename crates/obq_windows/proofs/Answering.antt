@@ -10,11 +10,11 @@ use Rattle.obq_model.specs.Occurrences.{bind_names}
 use Rattle.obq_model.specs.Procedures.{Proc}
 use Rattle.obq_model.specs.Put.{enter}
 use Rattle.obq_model.specs.Resolved.{IsNumbered}
-use Rattle.obq_model.specs.Step.{Frame, Operation, body_with, find, plug, testing}
+use Rattle.obq_model.specs.Step.{Frame, Operation, body_with, find, plug, self_at, testing}
 use Rattle.obq_model.specs.Terms.{Const, EachIn, End, Form, Object, Okay, Part, Term}
 use Rattle.obq_model.proofs.Among.{true_false}
 use Rattle.obq_model.proofs.Plug.{plug_append}
-use Rattle.obq_windows.specs.Acts.{AnswerCalled, AnswerForm, AnswerMethod, AnswerRaising, AnswerTest, AnswerValue, AnswersRead, CompleteAnswer, HasParameters, PlainAnswer, Takes, answer_node, answer_tree, enter_node_code, enter_node_value, enter_tree, enter_tree_code, enter_tree_value, left_by, scope_of, test_at_node, test_at_tree, value_at_node, value_at_tree}
+use Rattle.obq_windows.specs.Acts.{AnswerCalled, AnswerForm, AnswerMethod, AnswerRaising, AnswerTest, AnswerValue, AnswersRead, CompleteAnswer, HasParameters, PlainAnswer, SelfIsOwn, Takes, answer_node, answer_tree, enter_node_code, enter_node_value, enter_tree, enter_tree_code, enter_tree_value, left_by, scope_of, test_at_node, test_at_tree, value_at_node, value_at_tree}
 use Rattle.obq_windows.specs.Agrees.{AfterIs, Agrees, Alike, FocusIs, FrameIs, FramesAre, Same, StandsAt, act_behind, height_behind}
 use Rattle.obq_windows.specs.Complete.{AllComplete, CompleteAfter, CompleteFocus, CompleteFrames, CompleteOperation, CompletePending, CompletePlace, IsComplete, Knows}
 use Rattle.obq_windows.specs.Moves.{begin_vars}
@@ -25,12 +25,14 @@ use Rattle.obq_windows.specs.Windows.{Activation, NodeAct, NodeAfter, NodeCalled
 use Rattle.obq_windows.proofs.Acts.{Asked, act_asks}
 use Rattle.obq_windows.proofs.AlikeCalls.{at_entry}
 use Rattle.obq_windows.proofs.AlikeGives.{item_alike, var_alike}
+use Rattle.obq_windows.proofs.AlikeMoves.{self_alike}
 use Rattle.obq_windows.proofs.Around.{are_frames, whole}
 use Rattle.obq_windows.proofs.Calls.{body_right}
 use Rattle.obq_windows.proofs.Frames.{frames_full}
 use Rattle.obq_windows.proofs.Gives.{block_entered, var_given}
 use Rattle.obq_windows.proofs.Keeps.{CompleteMoved, place_more, vars_kept, zipped_complete}
 use Rattle.obq_windows.proofs.Running.{is_left_out}
+use Rattle.obq_windows.proofs.Selves.{selfed}
 use Rattle.obq_windows.proofs.Slots.{not_above}
 use Rattle.obq_windows.proofs.Starting.{vars_start}
 use Rattle.obq_windows.proofs.Whole.{made_of}
@@ -338,3 +340,9 @@ answers_read {R} eq T S g a s act ns op na t r o around e answer c =
       complete = record { frames = m.complete.frames; focus = m.complete.focus };
       term = ap (λ (z : List (Frame R)). plug z (left_by T o answer)) asked.frames ∙ ap (λ (z : Operation R). plug (frames_of T r.frames) (left_by T z answer)) asked.operation ∙ sym m.term;
     }
+
+pub self_is_own : {R : Type 0} → SelfIsOwn R
+self_is_own {R} eq T S g a s act ns op na t r o around e =
+    let at : AtAct T S act r.height op na r.focus = at_act T S act r.height op na r.focus r.is_focus in
+    let asked : Asked T r.frames op at.after o around = act_asks eq T (made_of T S g) a s r.frames op at.after o around (sym (ap (find eq a s) (r.term ∙ ap (term_of T r.frames) at.is_act)) ∙ e) in
+    ap (self_at s) asked.frames ∙ selfed T s r.frames ∙ sym (self_alike T S s act r.height ns r.frames r.are_frames)
