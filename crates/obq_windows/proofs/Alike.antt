@@ -1,31 +1,35 @@
 -- A part that begins: nodes and trees do the same.
 use Rattle.std.specs.Prelude.{Bool, List, None, Option, Some, [], codes, false, if◌then◌else◌, nat_lt, refl, slice_get, suc, true, ℕ, ◌∷◌, ◌≡◌}
-use Rattle.std.proofs.Common.{inl, inr, subst, sym}
 use Rattle.obq_base.specs.declared.code.Node.TheVariants as n
-use Rattle.obq_base.specs.Tree.{ABlock, ALink, AProc, ASuffix, AnArm, ApplySuffix, ArmTrees, ArrayTree, BlockTree, ChainTree, CloneTree, ExitTree, ExprTree, FinallyTree, ForTree, ForeachTree, IfTree, IndexSuffix, IntTree, InvokeSuffix, LinkTrees, LoopTree, MaybeBlock, NameTree, NoArms, NoBlock, NoLinks, NoSuffixes, ObjectTree, OkTree, ProcTree, RaiseTree, RedirectTree, SelectSuffix, SuffixTrees, SuffixedTree, TextTree, TruthTree, TryTree, WatchTree}
+use Rattle.std.proofs.Common.{inl, inr, subst, sym}
+use Rattle.obq_base.specs.Tree.{ABlock, ALink, AProc, ASuffix, AnArm, AnExpr, ApplySuffix, ArmTrees, ArrayTree, BlockTree, ChainTree, CloneTree, ExitTree, ExprTree, FinallyTree, ForTree, ForeachTree, IfTree, IndexSuffix, IntTree, InvokeSuffix, LinkTrees, LoopTree, MaybeBlock, NameTree, NoArms, NoBlock, NoExprs, NoLinks, NoSuffixes, ObjectTree, OkTree, ProcTree, RaiseTree, RedirectTree, SelectSuffix, SuffixTrees, SuffixedTree, TextTree, TruthTree, TryTree, WatchTree}
 use Rattle.obq_base.specs.declared.code.CodeNo.{CodeNo}
 use Rattle.obq_base.specs.declared.code.Node.{Node}
+use Rattle.obq_base.specs.declared.limits.TheConstants.{CLOSURE_LIMIT}
 use Rattle.obq_model.specs.CodeLaws.{nodes_of}
 use Rattle.obq_model.specs.Depth.{is_too_deep}
 use Rattle.obq_model.specs.Draft.{Both, Plain, behind_first, called_row, captured_by, count_arms, count_exprs, count_suffixes, draft_arms, draft_expr, draft_maybe, draft_suffixes, field_names, has_block, operators_of}
 use Rattle.obq_model.specs.Occurrences.{free_procedure}
 use Rattle.obq_model.specs.Opened.{open_block}
+use Rattle.obq_model.specs.Procedures.{Proc}
 use Rattle.obq_model.specs.Reading.{hide, read}
 use Rattle.obq_model.specs.Scopes.{Outside, inside, slot_of, slots_of}
-use Rattle.obq_model.specs.Terms.{Bytes, ExitUp}
+use Rattle.obq_model.specs.Step.{SetItem}
+use Rattle.obq_model.specs.Terms.{Array, Assign, Builtin, Bytes, Clone, Exit, ExitUp, Finally, For, Foreach, Int, Let, LetRec, Loop, Object, Okay, Raise, Redirect, Truth, Try, Var, Watch}
 use Rattle.obq_model.proofs.Among.{true_false}
 use Rattle.obq_model.proofs.Drafted.{drafted_block, drafted_expr, drafted_suffix}
 use Rattle.obq_model.proofs.Finds.{row_called}
 use Rattle.obq_model.proofs.Occurring.{captured_covered}
 use Rattle.obq_windows.specs.Agrees.{Agrees, FramesAre, IsBound, Same, StandsAt, place_at}
 use Rattle.obq_windows.specs.Complete.{PlaceLaw}
-use Rattle.obq_windows.specs.Trees.{BlockTask, Bound, ExprTask, HintExpr, PendingChain, PendingFirst, PendingHead, PendingIf, PendingLast, PendingLoop, PendingRaise, PendingTry, Place, Silent, Stepped, Tag, ToArray, ToBuiltin, TreeFrame, TreeMoved, TreeRaising, TreeRun, TreeValue, begin_args, begin_expr, begin_if, begin_proc, begin_suffixes, bound_names, captured_values, env_at, going_on, outside_at, push, tree_made, tree_moved, tree_raises, with_suffixes, writer_at}
+use Rattle.obq_windows.specs.Moves.{HintExpr, begin_args, begin_expr, begin_if, begin_proc, begin_suffixes, captured_values, going_on, with_suffixes}
+use Rattle.obq_windows.specs.Places.{Bound, Place, bound_names, env_at, outside_at, writer_at}
+use Rattle.obq_windows.specs.Trees.{BlockTask, ExprTask, PendingChain, PendingFirst, PendingForeach, PendingHead, PendingIf, PendingLast, PendingLoop, PendingRaise, PendingTry, PendingWatch, Silent, Stepped, Tag, ToArray, ToBuiltin, ToClone, ToRedirect, TreeFrame, TreeMoved, TreeRaising, TreeRun, TreeValue, push, tree_made, tree_moved, tree_raises}
 use Rattle.obq_windows.specs.Values.{ClosureValue, IntValue, OkayValue, PlainValues, Table, TextValue, TruthValue, depth_of_values}
-use Rattle.obq_windows.specs.Windows.{Activation, NodeChain, NodeFirst, NodeFrame, NodeHead, NodeIf, NodeLast, NodeLoop, NodeMoved, NodeRaise, NodeRaising, NodeRun, NodeTry, NodeValue, Store, arms_node, begin_node, item_node, node_at, node_made, node_moved, node_raises, suffixes_node, with_item, with_operator, with_suffix}
-use Rattle.obq_windows.proofs.AlikeCalls.{args_alike}
+use Rattle.obq_windows.specs.Windows.{Activation, NodeChain, NodeFirst, NodeForeach, NodeFrame, NodeHead, NodeIf, NodeLast, NodeLoop, NodeMoved, NodeRaise, NodeRaising, NodeRun, NodeTry, NodeValue, NodeWatch, Store, arms_node, begin_node, item_node, node_at, node_made, node_moved, node_raises, suffixes_node, with_item, with_operator, with_suffix}
+use Rattle.obq_windows.proofs.AlikeCalls.{args_alike, as_pair}
 use Rattle.obq_windows.proofs.Lists.{item_here}
 use Rattle.obq_windows.proofs.Slots.{alike, behind_none, capture_is, first_of, name_alike, next_here, node_here, not_above, regrouped, second_of}
-use Rattle.obq_base.specs.declared.limits.TheConstants.{CLOSURE_LIMIT}
 
 -- the rest of the arms of an `if`
 pub arms_alike : {R : Type 0} → (T : Table R) (S : Store R) → Agrees T S → (tag : Tag R) (act : Activation R) (b : ℕ) (bound : List (Bound R)) → IsBound act b bound → (ns : List (NodeFrame R)) (fs : List (TreeFrame R)) → FramesAre T S act b ns fs → (at : ℕ) (arms : ArmTrees) (last : MaybeBlock)
@@ -79,6 +83,8 @@ plain_node (n.LetRec numbers from) = false
 plain_node (n.Assign slot) = false
 plain_node (n.SetField name) = false
 plain_node n.SetItem = false
+plain_node (n.Alias name) = false
+plain_node (n.Meth number from) = false
 plain_node a = true
 
 pub record Head {R : Type 0} (S : Store R) (number : CodeNo) (at : ℕ) : Type 0 where
@@ -211,8 +217,8 @@ expr_alike T S g a thread count act b bound d w ns fs fr at (ForTree x m l block
       (NodeFirst (S.end act.code (suc at)) b, ns, refl, (S.end act.code (suc at), b, refl, not_above b, (bound, refl, w), second_of T S g (drafted_expr _ _ m) (next_here T S h)), fr)
       (suc at, refl, (bound, refl, w), first_of T S (next_here T S h)));
 }
-expr_alike T S g a thread count act b bound d w ns fs fr at (ForeachTree x e block place) h = record { numbers = []; hint = tt; same = at_node T S act.code at (n.Foreach) (begin_node S a thread count act ns at b) _ (node_here T S h) (inl (refl, refl)) }
-expr_alike T S g a thread count act b bound d w ns fs fr at (WatchTree c e place) h = record { numbers = []; hint = tt; same = at_node T S act.code at (n.Watch) (begin_node S a thread count act ns at b) _ (node_here T S h) (inl (refl, refl)) }
-expr_alike T S g a thread count act b bound d w ns fs fr at (RedirectTree e f place) h = record { numbers = []; hint = tt; same = at_node T S act.code at (n.Redirect) (begin_node S a thread count act ns at b) _ (node_here T S h) (inl (refl, refl)) }
-expr_alike T S g a thread count act b bound d w ns fs fr at (CloneTree es place) h = record { numbers = []; hint = tt; same = at_node T S act.code at (n.Clone (count_exprs es)) (begin_node S a thread count act ns at b) _ (node_here T S h) (inl (refl, refl)) }
+expr_alike T S g a thread count act b bound d w ns fs fr at (ForeachTree x e block place) h = record { numbers = []; hint = tt; same = at_node T S act.code at (n.Foreach) (begin_node S a thread count act ns at b) _ (node_here T S h) (alike T S Silent act b (NodeForeach (S.end act.code (suc at)) b ∷ ns) (NodeRun (suc at) b) (push (place_at act bound) (PendingForeach x block) fs) (TreeRun (place_at act bound) (ExprTask e)) (NodeForeach (S.end act.code (suc at)) b, ns, refl, (S.end act.code (suc at), b, refl, not_above b, (bound, refl, w), second_of T S g (drafted_expr _ _ e) (next_here T S h)), fr) (suc at, refl, (bound, refl, w), first_of T S (next_here T S h))) }
+expr_alike T S g a thread count act b bound d w ns fs fr at (WatchTree c e place) h = record { numbers = []; hint = tt; same = at_node T S act.code at (n.Watch) (begin_node S a thread count act ns at b) _ (node_here T S h) (alike T S Silent act b (NodeWatch (S.end act.code (suc at)) b ∷ ns) (NodeRun (suc at) b) (push (place_at act bound) (PendingWatch e) fs) (TreeRun (place_at act bound) (ExprTask c)) (NodeWatch (S.end act.code (suc at)) b, ns, refl, (S.end act.code (suc at), b, refl, not_above b, (bound, refl, w), second_of T S g (drafted_expr _ _ c) (next_here T S h)), fr) (suc at, refl, (bound, refl, w), first_of T S (next_here T S h))) }
+expr_alike T S g a thread count act b bound d w ns fs fr at (RedirectTree e f place) h = record { numbers = []; hint = tt; same = at_node T S act.code at (n.Redirect) (begin_node S a thread count act ns at b) _ (node_here T S h) (args_alike T S g a act b bound w ns fs fr ToRedirect [] (suc at) (AnExpr e (AnExpr f NoExprs)) (as_pair T S (next_here T S h))) }
+expr_alike T S g a thread count act b bound d w ns fs fr at (CloneTree es place) h = record { numbers = []; hint = tt; same = at_node T S act.code at (n.Clone (count_exprs es)) (begin_node S a thread count act ns at b) _ (node_here T S h) (args_alike T S g a act b bound w ns fs fr ToClone [] (suc at) es (next_here T S h)) }
 expr_alike T S g a thread count act b bound d w ns fs fr at (SuffixedTree e ss) h = record { numbers = []; hint = tt; same = suffixed_alike T S g a thread count act b bound w ns fs fr at e ss (called_row (outside_at T (place_at act bound)) (bound_names bound) e ss) refl h }

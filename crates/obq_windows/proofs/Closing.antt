@@ -1,9 +1,10 @@
 -- A closure that is made: what it captures is what its body reads.
 use Rattle.std.specs.Prelude.{Bool, List, None, Option, Some, [], bytes_eq, codes, drop, false, if◌then◌else◌, is_some, nat_lt, option_map, refl, suc, true, ℕ, ◌++◌, ◌||◌, ◌∷◌, ◌≡◌}
-use Rattle.std.proofs.lemmas.Slice.Eq.{bytes_eq-Decides}
 use Rattle.std.proofs.Common.{ap, sym, ◌∙◌}
+use Rattle.std.proofs.lemmas.Slice.Eq.{bytes_eq-Decides}
 use Rattle.obq_base.specs.Tree.{AProc, ARecBind, AnItem, ItemTrees, LetRecItem, NoItems, NoRecBinds, ProcTree, ProcedureTree, RecBindTrees}
 use Rattle.obq_base.specs.declared.code.CodeNo.{CodeNo}
+use Rattle.obq_base.specs.declared.limits.TheConstants.{CLOSURE_LIMIT}
 use Rattle.obq_base.specs.declared.occurrences.Occurrence.{Occurrence}
 use Rattle.obq_model.specs.Depth.{deepest_of, is_too_deep}
 use Rattle.obq_model.specs.Draft.{captured_by, captured_by_group}
@@ -21,13 +22,14 @@ use Rattle.obq_model.proofs.Occurring.{Only, captured_covered, only_block}
 use Rattle.obq_model.proofs.Places.{among_place, or_else, place_found}
 use Rattle.obq_model.proofs.Substitution.{agree_read, members_read}
 use Rattle.obq_windows.specs.Meanings.{Moves}
-use Rattle.obq_windows.specs.Trees.{Bound, IsGroupHint, IsProcHint, ItemsTask, Place, Stepped, Tag, TreeFrame, TreeRun, TreeValue, begin_letrec, begin_proc, begin_rest, bound_names, captured_values, env_at, expr_at, frames_of, items_at, last_bound, letrec_parts, member_at, member_values, names_at, or_this, outside_at, proc_group, proc_outside, tree_closed, tree_made, tree_moved, tree_raises, value_in, value_of, value_or_okay, with_bound, writer_at}
+use Rattle.obq_windows.specs.Moves.{IsGroupHint, IsProcHint, begin_letrec, begin_proc, begin_rest, captured_values, letrec_parts, member_values, tree_closed, value_or_okay}
+use Rattle.obq_windows.specs.Places.{Bound, Place, bound_names, env_at, last_bound, member_at, or_this, outside_at, proc_group, proc_outside, value_in, value_of, with_bound, writer_at}
+use Rattle.obq_windows.specs.Trees.{ItemsTask, Stepped, Tag, TreeFrame, TreeRun, TreeValue, expr_at, frames_of, items_at, names_at, tree_made, tree_moved, tree_raises}
 use Rattle.obq_windows.specs.Values.{ClosureValue, IsMadeTable, OkayValue, PlainValue, PlainValues, Table, captured_at, captured_env, closure_of, group_of, member_part, no_env, padded, proc_named, proc_of, read_value, read_values}
 use Rattle.obq_windows.proofs.Around.{Starts, here, stepped, to_here}
 use Rattle.obq_windows.proofs.Calls.{members_none, members_some}
 use Rattle.obq_windows.proofs.Envs.{fun_eq, others}
 use Rattle.obq_windows.proofs.Lists.{behind_here, item_here}
-use Rattle.obq_base.specs.declared.limits.TheConstants.{CLOSURE_LIMIT}
 
 -- ---- what is covered has a value
 

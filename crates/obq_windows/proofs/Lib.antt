@@ -1,13 +1,16 @@
+pub mod Acts
 pub mod Alike
 pub mod AlikeCalls
 pub mod AlikeGives
 pub mod AlikeItems
 pub mod AlikeMoves
+pub mod Answering
 pub mod Around
 pub mod Begins
 pub mod BuiltIns
 pub mod Calls
 pub mod Closing
+pub mod Counts
 pub mod Depths
 pub mod Envs
 pub mod Example
@@ -22,6 +25,8 @@ pub mod Raises
 pub mod Recursion
 pub mod Results
 pub mod Running
+pub mod Selves
 pub mod Slots
 pub mod Starting
+pub mod Updates
 pub mod Whole
