@@ -15,8 +15,8 @@ use Rattle.obq_front.specs.Refusals.{IfFault, IfRefused, refused_at}
 use Rattle.obq_front.specs.declared.gathered.Gathered.{Gathered}
 use Rattle.obq_front.specs.declared.program.Program.{Program}
 use Rattle.obq_front.specs.declared.program.Source.{Source}
-use Rattle.obq_front.specs.declared.single.Unaccepted.{Unaccepted}
-use Rattle.obq_front.specs.declared.single.Unaccepted.TheVariants as single
+use Rattle.obq_front.specs.declared.single.SourceRefused.{SourceRefused}
+use Rattle.obq_front.specs.declared.single.SourceRefused.TheVariants as single
 
 -- ---- what is left to examine completes what was examined
 
@@ -69,7 +69,7 @@ refuses_behind i source left whole old new one more = λ k fault rest.
 
 -- ---- the ends
 
-pub refused_here : (i : ℕ) (source : List ℕ) (left whole : List (List ℕ)) (why : Unaccepted) → IfFault why (IsFault source) → Refuses i (source ∷ left) whole
+pub refused_here : (i : ℕ) (source : List ℕ) (left whole : List (List ℕ)) (why : SourceRefused) → IfFault why (IsFault source) → Refuses i (source ∷ left) whole
     → IfRefused (refused_at i why) (IsFirstRefused whole)
 refused_here i source left whole (single.Fault fault) h more =
     let is : i + 0 ≡ i = omega arith in

@@ -1,1 +1,2 @@
 mod Examined
+mod Measured

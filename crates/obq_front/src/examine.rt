@@ -7,17 +7,17 @@ ghost use Rattle.obq_front.specs.Refusals.{IfRefused, refused_at};
 
 use crate::gathered::Gathered;
 use crate::program::{FrontRefused, Program, Source};
-use crate::single::Unaccepted;
+use crate::single::SourceRefused;
 use obq_base::limits::SOURCE_LIMIT;
 use std::alloc::Global;
 
 /// The refusal of the source with this number.
-fn refused(source: u16, why: Unaccepted) -> FrontRefused
+fn refused(source: u16, why: SourceRefused) -> FrontRefused
     ensures { result ≡ refused_at source why }
 {
     match why {
-        Unaccepted::Fault(fault) => FrontRefused::Refused { source, fault },
-        Unaccepted::NoMemory => FrontRefused::NoMemory,
+        SourceRefused::Fault(fault) => FrontRefused::Refused { source, fault },
+        SourceRefused::NoMemory => FrontRefused::NoMemory,
     }
 }
 

@@ -6,7 +6,7 @@ ghost use Rattle.obq_front.specs.Gathering.{Adds};
 ghost use Rattle.obq_front.specs.Refusals.{IfFault};
 
 use crate::program::{Program, Source};
-use crate::single::{Part, Unaccepted, examine_one};
+use crate::single::{Part, SourceRefused, examine_one};
 use obq_base::limits::SOURCE_LIMIT;
 use obq_base::{Block, Name, NoMemory, SourceCode};
 use obq_code::Codes;
@@ -46,7 +46,7 @@ impl Gathered {
     }
 
     /// Examines the source with this number, and adds what it gives.
-    pub fn add(&mut self, alloc: Global, number: u16, source: &Source) -> Result<(), Unaccepted>
+    pub fn add(&mut self, alloc: Global, number: u16, source: &Source) -> Result<(), SourceRefused>
         requires { length source.now.bytes.items ≤ SOURCE_LIMIT }
         ensures added { OnOk result (Adds self.old number source.now self.new) }
         ensures fault { IfErr result (λ why. IfFault why (IsFault source.now.bytes.items)) }

@@ -25,24 +25,24 @@ pub struct Part {
 
 /// Why a source isn't accepted.
 #[derive(Debug, Drop)]
-pub enum Unaccepted {
+pub enum SourceRefused {
     /// Its first fault.
     Fault(SourceFault),
     NoMemory,
 }
 
-impl From<NoMemory> for Unaccepted {
-    ghost use Rattle.obq_front.specs.declared.single.Unaccepted.TheVariants as unaccepted;
+impl From<NoMemory> for SourceRefused {
+    ghost use Rattle.obq_front.specs.declared.single.SourceRefused.TheVariants as unaccepted;
 
     ghost from_gives = { λ _ e. e ≡ unaccepted.NoMemory };
 
-    fn from(_error: NoMemory) -> Unaccepted {
-        Unaccepted::NoMemory
+    fn from(_error: NoMemory) -> SourceRefused {
+        SourceRefused::NoMemory
     }
 }
 
 /// The tree that a source's tokens derive.
-fn read_tree(alloc: Global, source: &[u8]) -> Result<Block, Unaccepted>
+fn read_tree(alloc: Global, source: &[u8]) -> Result<Block, SourceRefused>
     requires { length source.now ≤ SOURCE_LIMIT }
     ensures derived { IfOk result (λ block. (tokens : List Token) × IsReading source.now tokens × Derives tokens block) }
     ensures fault { IfErr result (λ why. IfFault why (IsFault source.now)) }
@@ -50,21 +50,21 @@ fn read_tree(alloc: Global, source: &[u8]) -> Result<Block, Unaccepted>
     let tokens = match lex(alloc, source) {
         Ok(tokens) => tokens,
         Err(LexRefused::Fault { kind, place }) => {
-            return Err(Unaccepted::Fault(SourceFault::Lexical { kind, place }));
+            return Err(SourceRefused::Fault(SourceFault::Lexical { kind, place }));
         }
-        Err(LexRefused::NoMemory) => return Err(Unaccepted::NoMemory),
+        Err(LexRefused::NoMemory) => return Err(SourceRefused::NoMemory),
     };
     match parse(alloc, &tokens) {
         Ok(block) => Ok(block),
         Err(ParseRefused::Syntax { token }) => {
-            Err(Unaccepted::Fault(SourceFault::Syntax { token }))
+            Err(SourceRefused::Fault(SourceFault::Syntax { token }))
         }
-        Err(ParseRefused::NoMemory) => Err(Unaccepted::NoMemory),
+        Err(ParseRefused::NoMemory) => Err(SourceRefused::NoMemory),
     }
 }
 
 /// The tree and the code of the source with this number.
-pub fn examine_one(alloc: Global, number: u16, source: &[u8]) -> Result<Part, Unaccepted>
+pub fn examine_one(alloc: Global, number: u16, source: &[u8]) -> Result<Part, SourceRefused>
     requires { length source.now ≤ SOURCE_LIMIT }
     ensures accepted { IfOk result (λ part. (tokens : List Token) × IsAccepted source.now tokens part.block) }
     ensures resolved { IfOk result (λ part. Resolves number (block_tree part.block) part.code) }
@@ -75,11 +75,11 @@ pub fn examine_one(alloc: Global, number: u16, source: &[u8]) -> Result<Part, Un
         Ok(code) => Ok(Part { block, code }),
         Err(ScopeRefused::Unbound { name, place }) => {
             drop(block);
-            Err(Unaccepted::Fault(SourceFault::Unbound { name, place }))
+            Err(SourceRefused::Fault(SourceFault::Unbound { name, place }))
         }
         Err(ScopeRefused::NoMemory) => {
             drop(block);
-            Err(Unaccepted::NoMemory)
+            Err(SourceRefused::NoMemory)
         }
     }
 }

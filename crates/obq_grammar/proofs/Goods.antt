@@ -1,14 +1,13 @@
 -- Each N begins in one way, and doesn't depend on what stands behind it.
-use Rattle.std.proofs.Common.{ℕ, suc, refl}
+use Rattle.std.proofs.Common.{ℕ, suc}
 use Rattle.obq_base.specs.declared.tokens.TokenKind.{TokenKind}
-use Rattle.obq_base.specs.declared.trees.Block.{Block}
 use Rattle.obq_model.specs.Nodes.{next}
-use Rattle.obq_model.specs.Grammar.{IsNoOpen, IsBlock, IsItem, IsBinds, IsBind, IsRecBinds, IsRecBind, IsFieldBody, IsMeth, IsParameters, IsNames, IsExpr, IsLevel, IsLinks, IsCall, IsArgs, IsPrim, IsArray, IsArm, IsElsifs, IsTry, IsGuard, IsGuards, IsFields, IsField}
+use Rattle.obq_model.specs.Grammar.{IsNoOpen, IsBlock, IsItem, IsBinds, IsBind, IsRecBinds, IsRecBind, IsFieldBody, IsMeth, IsParameters, IsNames, IsExpr, IsLevel, IsLinks, IsCall, IsArgs, IsPrim, IsArm, IsElsifs, IsGuard, IsGuards, IsFields, IsField}
 use Rattle.obq_grammar.specs.Follow.{Anything, EndsSuffixed, EndsLevel, EndsExpr, EndsNames, EndsArgs, EndsItem, EndsBlock, EndsElsifs, EndsGuards}
 use Rattle.obq_grammar.proofs.Theory.{Good}
 use Rattle.obq_grammar.proofs.Sets.{no_open, suffixed_dotted, level_suffixed, expr_suffixed, args_expr, item_expr, block_item, elsifs_block, guards_block}
-use Rattle.obq_grammar.proofs.Unique.{unique_block, unique_item, unique_binds, unique_bind, unique_rec_binds, unique_rec_bind, unique_field_body, unique_meth, unique_parameters, unique_names, unique_expr, unique_level, unique_links, unique_call, unique_args, unique_prim, unique_array, unique_arm, unique_elsifs, unique_try, unique_guard, unique_guards, unique_fields, unique_field}
-use Rattle.obq_grammar.proofs.Local.{local_block, local_item, local_binds, local_bind, local_rec_binds, local_rec_bind, local_field_body, local_meth, local_parameters, local_names, local_expr, local_level, local_links, local_call, local_args, local_prim, local_array, local_arm, local_elsifs, local_try, local_guard, local_guards, local_fields, local_field}
+use Rattle.obq_grammar.proofs.Unique.{unique_block, unique_item, unique_binds, unique_bind, unique_rec_binds, unique_rec_bind, unique_field_body, unique_meth, unique_parameters, unique_names, unique_expr, unique_level, unique_links, unique_call, unique_args, unique_prim, unique_arm, unique_elsifs, unique_guard, unique_guards, unique_fields, unique_field}
+use Rattle.obq_grammar.proofs.Local.{local_block, local_item, local_binds, local_bind, local_rec_binds, local_rec_bind, local_field_body, local_meth, local_parameters, local_names, local_expr, local_level, local_links, local_call, local_args, local_prim, local_arm, local_elsifs, local_guard, local_guards, local_fields, local_field}
 
 -- a token that may stand behind such an N is no "("
 not_open : (kind : TokenKind) → EndsSuffixed kind → IsNoOpen kind
@@ -74,9 +73,6 @@ good_args = record { unique = λ a b x r s p h q k. unique_args p h b s q k; loc
 pub good_prim : Good IsPrim Anything
 good_prim = record { unique = λ a b x r s p h q k. unique_prim p b s q k; local = λ a x r p v h. local_prim p v }
 
-pub good_array : Good IsArray Anything
-good_array = record { unique = λ a b x r s p h q k. unique_array p b s q k; local = λ a x r p v h. local_array p v }
-
 pub good_arm : Good IsArm EndsBlock
 good_arm = record { unique = λ a b x r s p h q k. unique_arm p h b s q k; local = λ a x r p v h. local_arm p v (λ g. block_open (next v) h) }
 
@@ -94,6 +90,3 @@ good_fields = record { unique = λ a b x r s p h q k. unique_fields p h b s q k;
 
 pub good_field : Good IsField EndsExpr
 good_field = record { unique = λ a b x r s p h q k. unique_field p h b s q k; local = λ a x r p v h. local_field p v (λ g. expr_open (next v) h) }
-
-pub good_try : (p : ℕ) (b : Block) → Good (IsTry p b) Anything
-good_try p b = record { unique = λ a c x r s d h q k. unique_try d b c s refl q; local = λ a x r d v h. let w = local_try d v in let t = w.2 b in (t.0, w.0, w.1, t.1) }

@@ -1,3 +1,7 @@
+pub mod Viewed
+pub mod Bounded
+pub mod Leaves
+pub mod Named
 pub mod Theory
 pub mod Sets
 pub mod Firsts

@@ -122,9 +122,6 @@ pub record Leads {B : Type 0} (M : List B → List Token → List Token → Type
   pub found : (bs : List B) (r : List Token) → M bs y r → M (ls ++ bs) x r
   pub fails : (z : List Token) → Fails M S y z → Fails M S x z
 
-pub start : {B : Type 0} {M : List B → List Token → List Token → Type 0} {S : TokenKind → Type 0} {x : List Token} → Leads M S [] x x
-start = record { found = λ bs r m. m; fails = λ z f. f }
-
 pub step : {B : Type 0} {M : List B → List Token → List Token → Type 0} {S : TokenKind → Type 0} {ls : List B} {x y z : List Token} (b : B) → Leads M S ls x y → ((bs : List B) (r : List Token) → M bs z r → M (b ∷ bs) y r) → ((w : List Token) → Fails M S z w → Fails M S y w) → Leads M S (ls ++ b ∷ []) x z
 step {M = M} {ls = ls} {x = x} b l found fails = record {
   found = λ bs r m. subst (λ (n : List _). M n x r) (sym (append_assoc ls (b ∷ []) bs)) (l.found (b ∷ bs) r (found bs r m));

@@ -1,3 +1,4 @@
 pub mod Follow
 pub mod Fails
 pub mod Parts
+pub mod Bounds

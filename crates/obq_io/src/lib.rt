@@ -16,7 +16,7 @@ pub use disk::DiskFiles;
 pub use files::{Failed, Files, Sink};
 pub use gates::{Gate, GateAt, PlainGate};
 pub use memory::{MemFiles, SureFiles};
-pub use reading::{Unread, read_file};
+pub use reading::{ReadRefused, read_file};
 pub use sinks::{MemSink, SureSink};
 pub use stdio::StdSink;
 pub use writing::{write_pieces, write_text};

@@ -29,8 +29,8 @@ fn a_file_and_a_text_in_memory(rt: HostRuntime) -> Result<(), Fail> {
     let mut files = MemFiles::new(vec![in alloc; held]?, vec![in alloc; 8]?);
     for (limit, want) in [
         (3, Ok(3)),
-        (2, Err(Unread::TooLong)),
-        (9, Err(Unread::Fault)),
+        (2, Err(ReadRefused::TooLong)),
+        (9, Err(ReadRefused::Fault)),
     ] {
         let found = read_file(alloc, &mut files, "held", limit).map(|bytes| bytes.len());
         assert_eq!(rt; found, want, "{limit}");

@@ -20,7 +20,7 @@ use Rattle.obq_laws.specs.Locality.{IsLocalStore, SameStore, OneCell, OneName, O
 use Rattle.obq_laws.specs.Turns.{state_of, Turn, Steps, Acts, Forks, Ends, Raises, Turns, NoTurn, TheAct, AStep}
 use Rattle.obq_laws.proofs.Methods.{leaving, marks_around, AreSourceFrames, IsSourceOperation, IsGood, good_find}
 use Rattle.obq_laws.proofs.Formed.{GoodThreadState, good_state, entry_formed, formed_replay}
-use Rattle.obq_laws.proofs.OwnerLaw.{eq_refl, now_append, now_held, now_here, is_owner_some, frames_away, holds_self, nobody_of}
+use Rattle.obq_laws.proofs.OwnerTerms.{eq_refl, now_append, now_held, now_here, is_owner_some, frames_away, holds_self, nobody_of}
 use Rattle.obq_laws.proofs.OwnerReplay.{marks_get, LawOf, owned_entry, owner_law}
 use Rattle.obq_laws.proofs.Turns.{turn_by_turn}
 

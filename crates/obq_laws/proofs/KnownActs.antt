@@ -1,6 +1,6 @@
 -- An act leaves a known store and a known term.
 use Rattle.std.specs.Prelude.{Bool, List, None, Option, Some, [], bytes_eq, drop, false, if◌then◌else◌, length, nat_le, nat_lt, negsuc, not, pos, refl, slice_get, slice_set, suc, true, unwrap_or, zero, ℕ, ℤ, ◌++◌, ◌==◌, ◌∷◌, ◌≡◌, ◌||◌, ◌≤◌}
-use Rattle.std.proofs.Common.{subst, sym}
+use Rattle.std.proofs.Common.{subst, sym, arith}
 use Rattle.obq_base.specs.declared.limits.TheConstants.{THREAD_LIMIT}
 use Rattle.obq_base.specs.declared.acts.ActKind.{ActKind}
 use Rattle.obq_base.specs.declared.trees.Flags.{Flags}
@@ -15,6 +15,7 @@ use Rattle.obq_model.specs.Effect.{Outcome, Waiting, Acting, Forking, get, invok
 use Rattle.obq_model.proofs.Slices.{set_length}
 use Rattle.obq_laws.specs.Known.{Places, Threads, IsKnown, AreKnown, IsKnownValue, AreKnownFields, IsKnownBody, AllKnown, IsKnownCell, location_kind, IsKnownAfter, IsKnownOperation, AreKnownCells, AreKnownNames, IsKnownStore, IsKnownExecution, AreKnownThreads}
 use Rattle.obq_laws.proofs.KnownStep.{known_put_all, known_enter, known_body}
+use Rattle.obq_laws.proofs.Numbers.{length_int}
 
 abbrev pub KnownOutcome : Places ℕ → Threads → Outcome → Type 0
 KnownOutcome L T Waiting = Unit {0}
@@ -24,7 +25,7 @@ KnownOutcome L T (Forking loc new focus) = IsKnown L T new × IsKnown L T focus
 -- what an operation makes is known
 abbrev pub MakesKnown : Places ℕ → Threads → Config → Operation ℕ → Type 0
 MakesKnown L T k (New cell after) = L (location_kind cell) (length k.store.cells)
-MakesKnown L T k (ForkOff f) = nat_le THREAD_LIMIT (length k.threads) ≡ false → T (length k.threads)
+MakesKnown L T k (ForkOff f) = nat_le THREAD_LIMIT (length k.threads) ≡ false → T.numbers (length k.threads)
 MakesKnown L T k op = Unit {0}
 
 abbrev IsKnownSome : Places ℕ → Threads → Option (Cell ℕ) → Type 0
@@ -156,6 +157,15 @@ owned_known : (L : Places ℕ) (T : Threads) (owner : Option ℕ) (st : Store �
 owned_known L T owner st o (Some (ObjectCell flags old fields)) i h = with_cell_known L T st o (ObjectCell flags owner fields) i h
 owned_known L T owner st o _ i h = i
 
+size_at : (L : Places ℕ) (T : Threads) (c : Option (Cell ℕ)) → IsKnownSome L T c → length (items_of c) ≤ 65536
+size_at L T (Some (ArrayCell vs)) h = h.0
+size_at L T (Some (ObjectCell flags owner fields)) h = omega arith
+size_at L T (Some (VariableCell v)) h = omega arith
+size_at L T (Some (WriterCell bytes)) h = omega arith
+size_at L T (Some (ConditionCell line)) h = omega arith
+size_at L T (Some (EngineCell v)) h = omega arith
+size_at L T None h = omega arith
+
 array_known : (L : Places ℕ) (T : Threads) (c : Option (Cell ℕ)) → IsKnownSome L T c → AllKnown L T (items_of c)
 array_known L T (Some (ArrayCell vs)) h = h.1
 array_known L T _ h = tt
@@ -210,7 +220,7 @@ known_after L T Itself n (WriterCell bytes) h l = l
 known_after L T Itself n (ConditionCell line) h l = l
 known_after L T Itself n (EngineCell v) h l = l
 known_after L T (Entered scope) n c h l = known_enter L T (Loc Variable n ∷ []) scope (subst (λ kind. L kind n) h.0 l, tt) h.1
-known_after L T (Offered name namer) n c h l = (tt, (tt, (tt, (subst (λ kind. L kind n) h l, tt))))
+known_after L T (Offered name namer) n c h l = (tt, (h.1, (h.2, (subst (λ kind. L kind n) h.0 l, tt))))
 
 known_exported : (L : Places ℕ) (T : Threads) (x : Bytes) (ns : List (Bytes × Value ℕ)) → AreKnownNames L T ns → IsKnownIf L T (exported x ns)
 known_exported L T x [] h = tt
@@ -262,7 +272,7 @@ known_perform L T k t s (Copy o first copied rest) i ts h m = known_at_object L 
 known_perform L T k t s (RedirectTo o target) i ts h m = known_at_object L T k.store t s o (RedirectTo o target) (cell_at k.store o) i h.0 (known_get L T k.store.cells o i.0) h
 known_perform L T k t s (Leave o out) i ts h m = (owned_known L T None k.store o (cell_at k.store o) i (known_get L T k.store.cells o i.0), h.1)
 known_perform L T k t s (GetItem a j) i ts h m = known_item L T k.store a (λ v. Const v) (item_at (items_of (cell_at k.store a)) j) i (λ w q. q) (item_at_known L T (items_of (cell_at k.store a)) j (array_known L T (cell_at k.store a) (known_get L T k.store.cells a i.0)))
-known_perform L T k t s (GetSize a) i ts h m = (i, tt)
+known_perform L T k t s (GetSize a) i ts h m = (i, λ b. length_int (length (items_of (cell_at k.store a))) (size_at L T (cell_at k.store a) (known_get L T k.store.cells a i.0)))
 known_perform L T k t s (EachSize a scope) i ts h m = (i, (h.0, (h.1, tt)))
 known_perform L T k t s (EachItem a j n scope) i ts h m =
     known_item L T k.store a (λ v. Form (EachIn a j n) (Part (enter (v ∷ []) scope) (Part scope End))) (slice_get (items_of (cell_at k.store a)) j) i

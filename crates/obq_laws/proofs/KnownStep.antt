@@ -13,7 +13,8 @@ use Rattle.obq_model.specs.Exceptions.{raising, arity, int_overflow, text_limit,
 use Rattle.obq_model.specs.Builtins.{is_i64, number, divided, same, compared, operate, part, arity_of_builtin}
 use Rattle.obq_model.specs.Store.{ObjectCell, ArrayCell, field_names, twice}
 use Rattle.obq_model.specs.Step.{Self, Itself, New, CallMethod, Set, EachItem, RunEngine, is_operand, Frame, Pending, values_before, plug, self_in, activations_in, Found, Next, Needs, Done, Uncaught, part_at, params_of, body_with, is_call_limit, call_closure, with_one_parameter, call_engine, is_callable, call_value, field_before, fields_of, layout_names, new_object, make_object, object_before, objects, clone, array_of_size, fork_of, apply, counting, choose, out_of_method, chosen, tested, watching, cloned, row, out_of_loop, out_of_try, at_raised, through, find, find_part}
-use Rattle.obq_laws.specs.Known.{Places, Threads, AllObjects, IsKnown, AreKnown, IsKnownValue, IsKnownKind, AreKnownFields, IsKnownBody, AllKnown, HasOneParameter, AreKnownFrames, IsKnownFound, IsKnownSelf}
+use Rattle.obq_laws.proofs.Numbers.{decimal_short, length_int, next_int, part_length, truth_length}
+use Rattle.obq_laws.specs.Known.{Places, Threads, AllObjects, IsKnown, AreKnown, IsKnownValue, IsKnownKind, AreKnownFields, IsKnownBody, AllKnown, HasOneParameter, AreKnownFrames, IsKnownFound, IsKnownSelf, IsInt, IsText}
 
 -- ---- putting in
 
@@ -85,6 +86,10 @@ found_where L T false x y h i = i
 term_unless : {R : Type 0} (L : Places R) (T : Threads) (b : Bool) (t u : Term R) → IsKnown L T t → (b ≡ false → IsKnown L T u) → IsKnown L T (if b then t else u)
 term_unless L T true t u h i = h
 term_unless L T false t u h i = i refl
+
+term_where : {R : Type 0} (L : Places R) (T : Threads) (b : Bool) (t u : Term R) → (b ≡ true → IsKnown L T t) → IsKnown L T u → IsKnown L T (if b then t else u)
+term_where L T true t u h i = h refl
+term_where L T false t u h i = i
 
 within : (m n : ℕ) → nat_lt m n ≡ false → n ≤ m
 within m n h = grind (arith, nat_tests)
@@ -175,21 +180,22 @@ known_fork L T f None h = (tt, tt)
 known_fork L T f (Some []) h = (h, tt)
 known_fork L T f (Some (x ∷ xs)) h = (tt, tt)
 
-known_part : {R : Type 0} (L : Places R) (T : Threads) (t : Bytes) (a b : ℤ) → IsKnown L T (part t a b)
-known_part L T t (pos a) (pos b) = known_if L T (nat_lt (length t) (a + b)) text_range (Const (Text (take b (drop a t)))) (tt, tt) tt
-known_part L T t (pos a) (negsuc b) = (tt, tt)
-known_part L T t (negsuc a) b = (tt, tt)
+known_part : {R : Type 0} (L : Places R) (T : Threads) (t : Bytes) (a b : ℤ) → IsText T t → IsKnown L T (part t a b)
+known_part L T t (pos a) (pos b) h =
+    known_if L T (nat_lt (length t) (a + b)) text_range (Const (Text (take b (drop a t)))) (tt, tt) (λ z. let short : length t ≤ 65536 = h z in let le = part_length a b t in omega (arith, short, le))
+known_part L T t (pos a) (negsuc b) h = (tt, tt)
+known_part L T t (negsuc a) b h = (tt, tt)
 
 known_apply : {R : Type 0} (L : Places R) (T : Threads) (b : Builtin) (vs : List (Value R)) → AllKnown L T vs → IsKnownFound L T (apply b vs)
 known_apply L T Not (Truth b ∷ []) k = tt
-known_apply L T Exception (Text t ∷ []) k = tt
-known_apply L T FmtInt (Int z ∷ []) k = tt
-known_apply L T FmtBool (Truth b ∷ []) k = tt
-known_apply L T TextLength (Text t ∷ []) k = tt
-known_apply L T TextSub (Text t ∷ Int start ∷ Int size ∷ []) k = known_part L T t start size
+known_apply L T Exception (Text t ∷ []) k = k.0
+known_apply L T FmtInt (Int z ∷ []) k = λ b. decimal_short z (k.0 b)
+known_apply L T FmtBool (Truth b ∷ []) k = λ z. truth_length b
+known_apply L T TextLength (Text t ∷ []) k = λ b. length_int (length t) (k.0 b)
+known_apply L T TextSub (Text t ∷ Int start ∷ Int size ∷ []) k = known_part L T t start size k.0
 known_apply L T ArrayNew (Int n ∷ v ∷ []) k = known_array L T n v k.1.0
 known_apply L T ArraySize (Loc Array a ∷ []) k = (k.0, tt)
-known_apply L T PutText (Loc Writer w ∷ Text t ∷ []) k = (k.0, tt)
+known_apply L T PutText (Loc Writer w ∷ Text t ∷ []) k = ((k.0, k.1.0), tt)
 known_apply L T NewCondition [] k = ((tt, tt), tt)
 known_apply L T SignalOne (Loc Condition c ∷ []) k = (k.0, tt)
 known_apply L T SignalAll (Loc Condition c ∷ []) k = (k.0, tt)
@@ -197,12 +203,12 @@ known_apply L T Fork (f ∷ []) k = known_fork L T f (params_of f) k.0
 known_apply L T JoinThread (Thread t ∷ []) k = (k.0, tt)
 known_apply L T NetExport (Text name ∷ Text namer ∷ v ∷ []) k = (k.1.1.0, tt)
 known_apply L T NetImport (Text name ∷ Text namer ∷ []) k = (tt, tt)
-known_apply L T ExportEngine (Text name ∷ Text namer ∷ v ∷ []) k = ((k.1.1.0, refl), tt)
+known_apply L T ExportEngine (Text name ∷ Text namer ∷ v ∷ []) k = ((k.1.1.0, (refl, k.0, k.1.0)), tt)
 known_apply L T ImportEngine (Text name ∷ Text namer ∷ []) k = (tt, tt)
 known_apply L T _ _ k = (tt, tt)
 
 known_number : {R : Type 0} (L : Places R) (T : Threads) (z : ℤ) → IsKnown L T (number z)
-known_number L T z = known_if L T (is_i64 z) (Const (Int z)) int_overflow tt (tt, tt)
+known_number L T z = term_where L T (is_i64 z) (Const (Int z)) int_overflow (λ e b. e) (tt, tt)
 
 known_divided : {R : Type 0} (L : Places R) (T : Threads) (f : ℤ → ℤ → ℤ) (a b : ℤ) → IsKnown L T (divided f a b)
 known_divided L T f a (pos zero) = (tt, tt)
@@ -219,7 +225,7 @@ known_operate L T eq Operator.Subtract (Int a) (Int b) = known_number L T (a -�
 known_operate L T eq Operator.Multiply (Int a) (Int b) = known_number L T (a *ℤ b)
 known_operate L T eq Operator.Divide (Int a) (Int b) = known_divided L T int_div a b
 known_operate L T eq Operator.Remainder (Int a) (Int b) = known_divided L T int_rem a b
-known_operate L T eq Operator.Join (Text a) (Text b) = known_if L T (nat_lt TEXT_LIMIT (length (a ++ b))) text_limit (Const (Text (a ++ b))) (tt, tt) tt
+known_operate L T eq Operator.Join (Text a) (Text b) = term_unless L T (nat_lt TEXT_LIMIT (length (a ++ b))) text_limit (Const (Text (a ++ b))) (tt, tt) (λ e z. within 65536 (length (a ++ b)) e)
 known_operate L T eq Operator.Less (Int a) (Int b) = tt
 known_operate L T eq Operator.LessEqual (Int a) (Int b) = tt
 known_operate L T eq Operator.Greater (Int a) (Int b) = tt
@@ -228,9 +234,9 @@ known_operate L T eq Operator.Is v w = known_compared L T (λ b. b) (same eq v w
 known_operate L T eq Operator.IsNot v w = known_compared L T not (same eq v w)
 known_operate L T eq _ _ _ = (tt, tt)
 
-known_counting : {R : Type 0} (L : Places R) (T : Threads) (i n : ℤ) (scope : Term R) → IsKnown L T scope → IsKnown L T (counting i n scope)
-known_counting L T i n scope h =
-    known_if L T (int_lt n i) (Const Okay) (Form (Counting i n) (Part (enter (Int i ∷ []) scope) (Part scope End))) tt (tt, (known_enter L T (Int i ∷ []) scope (tt, tt) h, (h, tt)))
+known_counting : {R : Type 0} (L : Places R) (T : Threads) (i n : ℤ) (scope : Term R) → (int_lt n i ≡ false → IsInt T i) → IsInt T n → IsKnown L T scope → IsKnown L T (counting i n scope)
+known_counting L T i n scope one last h =
+    term_unless L T (int_lt n i) (Const Okay) (Form (Counting i n) (Part (enter (Int i ∷ []) scope) (Part scope End))) tt (λ e. ((one e, last), (known_enter L T (Int i ∷ []) scope (one e, tt) h, (h, tt))))
 
 known_choose : {R : Type 0} (L : Places R) (T : Threads) (e : Bytes) (arms : Parts R) → AreKnown L T arms → IsKnown L T (choose e arms)
 known_choose L T e (Part guard (Part block arms)) h = (tt, h)
@@ -292,7 +298,7 @@ known_row L T eq a s Clone vs End z l h p = known_clone L T (objects vs) (known_
 known_row L T eq a s Raise (Exc e ∷ []) End z l h p = (tt, tt)
 known_row L T eq a s Exit [] End z l h p = (tt, tt)
 known_row L T eq a s Loop [] (Part body End) z l h p = (tt, (p.0, (p.0, tt)))
-known_row L T eq a s For (Int m ∷ Int n ∷ []) (Part scope End) z l h p = known_counting L T m n scope p.0
+known_row L T eq a s For (Int m ∷ Int n ∷ []) (Part scope End) z l h p = known_counting L T m n scope (λ e. h.0) h.1.0 p.0
 known_row L T eq a s Foreach (Loc Array r ∷ []) (Part scope End) z l h p = ((h.0, p.0), tt)
 known_row L T eq a s Try (v ∷ []) arms z l h p = h.0
 known_row L T eq a s Finally (v ∷ []) (Part last End) z l h p = (tt, (p.0, (h.0, tt)))
@@ -302,7 +308,7 @@ known_row L T eq a s (Raising r) [] End z l h p = tt
 known_row L T eq a s Called (v ∷ []) End z l h p = h.0
 known_row L T eq a s (Within q m) (v ∷ []) End z l h p = known_out L T q m (Const v) l h.0
 known_row L T eq a s Looping (v ∷ []) (Part body End) z l h p = (tt, (p.0, (p.0, tt)))
-known_row L T eq a s (Counting i n) (v ∷ []) (Part scope End) z l h p = known_counting L T (i +ℤ pos 1) n scope p.0
+known_row L T eq a s (Counting i n) (v ∷ []) (Part scope End) z l h p = known_counting L T (i +ℤ pos 1) n scope (λ e b. next_int i n (l.0 b) (l.1 b) e) l.1 p.0
 known_row L T eq a s (EachAt r i n) [] (Part scope End) z l h p = found_if L T (i == n) (Next (Const Okay)) (Needs (EachItem r i n scope) []) tt ((l, p.0), tt)
 known_row L T eq a s (EachIn r i n) (v ∷ []) (Part scope End) z l h p = (l, (p.0, tt))
 known_row L T eq a s (Choosing e) (v ∷ []) (Part block arms) z l h p = known_chosen L T e v block arms p.0 p.1

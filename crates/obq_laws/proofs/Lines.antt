@@ -25,7 +25,7 @@ use Rattle.obq_laws.specs.Turns.{state_of, changed, with_thread, alone, Turn, St
 use Rattle.obq_model.specs.Forms.{marks_of}
 use Rattle.obq_laws.proofs.Methods.{IsSourceOperation, IsGood, good_find}
 use Rattle.obq_laws.proofs.Formed.{GoodThreadState, good_state, entry_formed, opening_of_formed}
-use Rattle.obq_laws.proofs.OwnerLaw.{eq_refl}
+use Rattle.obq_laws.proofs.OwnerTerms.{eq_refl}
 use Rattle.obq_laws.proofs.Turns.{turn_taken, kept_by_replay}
 
 true_false : true ≡ false → ⊥
@@ -189,14 +189,6 @@ IsLater v old new = in_line v new ≡ true → (in_line v old ≡ true) × (coun
 
 later_same : (v : ℕ) (line : List ℕ) → IsLater v line line
 later_same v line h = (h, (λ e. e))
-
-none_in : (v : ℕ) (line : List ℕ) → in_line v line ≡ false → count_in v line ≡ 0
-none_in v [] h = refl
-none_in v (u ∷ us) h = by (v == u) h (none_in v us)
-  where
-    by : (b : Bool) → (b || in_line v us) ≡ false → (in_line v us ≡ false → count_in v us ≡ 0) → (if b then suc (count_in v us) else count_in v us) ≡ 0
-    by true r next = absurd (true_false r)
-    by false r next = next r
 
 some_in : (v : ℕ) (line : List ℕ) → in_line v line ≡ true → count_in v line ≡ 0 → ⊥
 some_in v [] h e = absurd (true_false (sym h))

@@ -19,12 +19,12 @@ use Rattle.obq_laws.specs.Keeping.{IsNotHeld, Keeps, IsSourceExecution, AllFit, 
 use Rattle.obq_laws.proofs.Source.{source-marks_of}
 use Rattle.obq_laws.proofs.Methods.{leaving, marks_around, AreSourceFrames, IsSourceOperation, IsGood, good_find}
 use Rattle.obq_laws.proofs.Acts.{IsGoodOutcome, FitsSelf, good_perform}
-use Rattle.obq_laws.proofs.Owners.{Owners, owners_perform}
+use Rattle.obq_laws.proofs.OwnerActs.{Owners, owners_perform}
 use Rattle.obq_laws.proofs.Plugged.{marks_plug, step_keeps}
 use Rattle.obq_laws.proofs.Opened.{source_block}
 use Rattle.obq_laws.proofs.Flags.{fit_before, nobody_fits, self_at_fits}
 use Rattle.obq_laws.proofs.Formed.{GoodThreadState, good_state, with_execution_formed, with_turns_formed, FormedAfter, one_step, more_steps, entry_formed, opening_of_formed}
-use Rattle.obq_laws.proofs.OwnerLaw.{now_append, once_left, NewLaw, act_law, frames_away, self_holds}
+use Rattle.obq_laws.proofs.OwnerTerms.{now_append, once_left, NewLaw, act_law, frames_away, self_holds}
 
 -- ---- threads
 

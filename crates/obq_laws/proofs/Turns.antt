@@ -18,7 +18,7 @@ use Rattle.obq_model.proofs.Slices.{get_below, set_same, set_set, set_own, set_l
 use Rattle.obq_laws.specs.Determinism.{entry_of}
 use Rattle.obq_laws.specs.Turns.{state_of, changed, with_thread, CanGo, Turn, Steps, Acts, Forks, Ends, Raises, Turns, NoTurn, TheAct, AStep, TurnByTurn, alone, TurnTaken}
 use Rattle.obq_laws.proofs.HeldActs.{none_some}
-use Rattle.obq_laws.proofs.OwnerLaw.{eq_refl}
+use Rattle.obq_laws.proofs.OwnerTerms.{eq_refl}
 use Rattle.obq_laws.proofs.Exclusion.{act_same_eq}
 use Rattle.obq_laws.proofs.Determinism.{cut_entry}
 
@@ -212,7 +212,7 @@ kept_by_replay turns P h trees p es k r = kept_from turns P h (opening trees) k 
 
 -- ---- from a turn to its entry
 
-one_left : (turns used : ℕ) → used < turns → nat_lt turns (used + 0 + 1) ≡ false
+pub one_left : (turns used : ℕ) → used < turns → nat_lt turns (used + 0 + 1) ≡ false
 one_left turns used l = grind (arith, nat_tests)
 
 one_left_step : (turns used : ℕ) → used < turns → nat_lt turns (used + 1 + 0) ≡ false

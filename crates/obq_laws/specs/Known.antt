@@ -1,23 +1,40 @@
 -- Terms whose locations, thread numbers and members are known: each location is one of its kind that L allows, each thread one that T allows,
--- each member an index of its group, and no closure lies too deep.
-use Rattle.std.specs.Prelude.{List, None, Option, Some, [], length, slice_get, ℕ, ◌<◌, ◌∷◌, ◌≡◌, ◌≤◌}
+-- each member an index of its group, and no closure lies too deep. Where T says that they are bounded, integers have 64 bits, and texts at most
+-- 65,536 bytes.
+use Rattle.std.specs.Prelude.{List, None, Option, Some, [], length, map, slice_get, true, ℕ, ℤ, ◌<◌, ◌∷◌, ◌≡◌, ◌≤◌}
 use Rattle.obq_base.specs.declared.acts.Entry.{Entry}
-use Rattle.obq_base.specs.declared.limits.TheConstants.{ARRAY_LIMIT, CLOSURE_LIMIT}
+use Rattle.obq_base.specs.declared.limits.TheConstants.{ARRAY_LIMIT, CLOSURE_LIMIT, TEXT_LIMIT}
+use Rattle.obq_base.specs.declared.tokens.TokenKind.{TokenKind}
+use Rattle.obq_base.specs.declared.tokens.TokenKind.TheVariants as kind_of
+use Rattle.obq_base.specs.declared.trees.Block.{Block}
 use Rattle.obq_base.specs.Tree.{BlockTree}
-use Rattle.obq_model.specs.Terms.{Bytes, LocKind, Object, Array, Variable, Writer, Condition, Engine, Value, Thread, Closure, Member, Loc, FieldBody, IsValue, IsMethod, IsAlias, Fields, Bare, Field, Kind, Read, Within, EachAt, EachIn, Cloning, Testing, Lined, Out, Term, Const, Name, Under, Form, Parts, End, Part}
+use Rattle.obq_base.specs.View.{block_tree}
+use Rattle.obq_model.specs.Sources.{AreAccepted}
+use Rattle.obq_model.specs.Terms.{Bytes, LocKind, Object, Array, Variable, Writer, Condition, Engine, Value, Int, Text, Exc, Thread, Closure, Member, Loc, FieldBody, IsValue, IsMethod, IsAlias, Fields, Bare, Field, Kind, Read, Within, Counting, EachAt, EachIn, Cloning, Testing, Lined, Out, Term, Const, Name, Under, Form, Parts, End, Part}
 use Rattle.obq_model.specs.Depth.{deepest, deepest_of}
 use Rattle.obq_model.specs.Store.{Cell, ObjectCell, ArrayCell, VariableCell, WriterCell, ConditionCell, EngineCell, Store, same_loc}
 use Rattle.obq_model.specs.Step.{no_self, After, Itself, Entered, Offered, Operation, New, Get, CallMethod, Leave, Set, Copy, RedirectTo, GetItem, GetSize, EachSize, EachItem, SetItem, ReadVariable, SetVariable, Write, ForkOff, JoinWith, LineUp, GiveUp, Again, Signal, Broadcast, Export, RunEngine, Frame, Pending, Found, Next, Needs, Done, Uncaught, params_of, find}
 use Rattle.obq_model.specs.Config.{Execution, Running, Returned, Failed, ThreadState, Config, cell_at}
 use Rattle.obq_model.specs.Replay.{replay}
+use Rattle.obq_model.specs.Builtins.{is_i64}
+use Rattle.obq_model.specs.Leaves.{AreBounded}
 use Rattle.obq_laws.specs.Turns.{state_of}
 
--- which locations there are, and which threads
+-- which locations there are
 abbrev pub Places : Type 0 → Type 1
 Places R = LocKind → R → Type 0
 
-abbrev pub Threads : Type 1
-Threads = ℕ → Type 0
+-- which threads there are, and that integers and texts are bounded
+pub record Threads : Type 1 where
+  pub numbers : ℕ → Type 0
+  pub bounded : Type 0
+
+-- an integer has 64 bits, a text at most 65,536 bytes, if they are bounded
+abbrev pub IsInt : Threads → ℤ → Type 0
+IsInt T z = T.bounded → is_i64 z ≡ true
+
+abbrev pub IsText : Threads → Bytes → Type 0
+IsText T bytes = T.bounded → length bytes ≤ TEXT_LIMIT
 
 -- all of these are objects
 abbrev pub AllObjects : {R : Type 0} → Places R → List R → Type 0
@@ -36,7 +53,10 @@ abbrev mutual
   AreKnown L T (Part t parts) = IsKnown L T t × AreKnown L T parts
 
   pub IsKnownValue : {R : Type 0} → Places R → Threads → Value R → Type 0
-  IsKnownValue L T (Thread n) = T n
+  IsKnownValue L T (Int z) = IsInt T z
+  IsKnownValue L T (Text bytes) = IsText T bytes
+  IsKnownValue L T (Exc bytes) = IsText T bytes
+  IsKnownValue L T (Thread n) = T.numbers n
   IsKnownValue L T (Closure params body) = (deepest body ≤ CLOSURE_LIMIT) × IsKnown L T body
   IsKnownValue L T (Member names group i) = (i < length names) × (deepest_of group ≤ CLOSURE_LIMIT) × AreKnown L T group
   IsKnownValue L T (Loc kind r) = L kind r
@@ -45,6 +65,7 @@ abbrev mutual
   pub IsKnownKind : {R : Type 0} → Places R → Threads → Kind R → Type 0
   IsKnownKind L T (Read l) = L Variable l
   IsKnownKind L T (Within o m) = L Object o
+  IsKnownKind L T (Counting i n) = IsInt T i × IsInt T n
   IsKnownKind L T (EachAt r i n) = L Array r
   IsKnownKind L T (EachIn r i n) = L Array r
   IsKnownKind L T (Cloning flags fields rest) = AreKnownFields L T fields × AllObjects L rest
@@ -88,7 +109,7 @@ location_kind (EngineCell v) = Engine
 abbrev pub IsKnownAfter : {R : Type 0} → Places R → Threads → Cell R → After R → Type 0
 IsKnownAfter L T cell Itself = Unit {0}
 IsKnownAfter L T cell (Entered scope) = (location_kind cell ≡ Variable) × IsKnown L T scope
-IsKnownAfter L T cell (Offered name namer) = location_kind cell ≡ Engine
+IsKnownAfter L T cell (Offered name namer) = (location_kind cell ≡ Engine) × IsText T name × IsText T namer
 
 -- the closure has one parameter
 abbrev pub HasOneParameter : Option (List Bytes) → Type 0
@@ -111,9 +132,9 @@ IsKnownOperation L T (EachItem a i n scope) = L Array a × IsKnown L T scope
 IsKnownOperation L T (SetItem a i v) = L Array a × IsKnownValue L T v
 IsKnownOperation L T (ReadVariable l) = L Variable l
 IsKnownOperation L T (SetVariable l v) = L Variable l × IsKnownValue L T v
-IsKnownOperation L T (Write w x) = L Writer w
+IsKnownOperation L T (Write w x) = L Writer w × IsText T x
 IsKnownOperation L T (ForkOff f) = IsKnownValue L T f
-IsKnownOperation L T (JoinWith u) = T u
+IsKnownOperation L T (JoinWith u) = T.numbers u
 IsKnownOperation L T (LineUp o c guard) = L Object o × L Condition c × IsKnown L T guard
 IsKnownOperation L T (GiveUp o c guard) = L Object o × L Condition c × IsKnown L T guard
 IsKnownOperation L T (Again o c guard) = L Object o × L Condition c × IsKnown L T guard
@@ -153,9 +174,13 @@ HasKind kind (Some c) = location_kind c ≡ kind
 abbrev pub IsPlace : Store ℕ → LocKind → ℕ → Type 0
 IsPlace st kind r = HasKind kind (cell_at st r)
 
--- a thread's number is that of a thread
-abbrev pub IsThread : List ThreadState → ℕ → Type 0
-IsThread ts n = n < length ts
+-- so many threads; integers and texts are bounded where B holds
+abbrev pub Numbered : Type 0 → ℕ → Threads
+Numbered B n = record { numbers = λ u. u < n; bounded = B }
+
+-- these threads
+abbrev pub Counted : Type 0 → List ThreadState → Threads
+Counted B ts = Numbered B (length ts)
 
 abbrev pub AreKnownCells : Places ℕ → Threads → List (Cell ℕ) → Type 0
 AreKnownCells L T [] = Unit {0}
@@ -178,17 +203,17 @@ AreKnownThreads L T [] = Unit {0}
 AreKnownThreads L T (s ∷ ss) = IsKnownExecution L T s.execution × AreKnownThreads L T ss
 
 -- in all terms and cells each location names a cell of its kind, each thread number a thread, each member index a member,
--- no closure lies deeper than 1,000, and no array is longer than 65,536
-abbrev pub IsKnownConfig : Config → Type 0
-IsKnownConfig k = IsKnownStore (IsPlace k.store) (IsThread k.threads) k.store × AreKnownThreads (IsPlace k.store) (IsThread k.threads) k.threads
+-- no closure lies deeper than 1,000, and no array is longer than 65,536; where B holds, integers have 64 bits, and texts at most 65,536 bytes
+abbrev pub IsKnownConfig : Type 0 → Config → Type 0
+IsKnownConfig B k = IsKnownStore (IsPlace k.store) (Counted B k.threads) k.store × AreKnownThreads (IsPlace k.store) (Counted B k.threads) k.threads
 
--- so in every configuration that a journal of a program replays to
+-- so in every configuration that a journal of a program replays to, with integers and texts bounded where those of its trees are
 abbrev pub ReferencesLaw : Type 0
-ReferencesLaw = (trees : List BlockTree) (turns : ℕ) (es : List Entry) (k : Config) → replay trees turns es ≡ Some k → IsKnownConfig k
+ReferencesLaw = (trees : List BlockTree) (turns : ℕ) (es : List Entry) (k : Config) → replay trees turns es ≡ Some k → IsKnownConfig (AreBounded trees) k
 
 -- where an act stands next in a thread, its location names a cell of the kind that the act is on
 abbrev pub NextIsKnown : Type 0
 NextIsKnown =
     (trees : List BlockTree) (turns : ℕ) (es : List Entry) (k : Config) (t used : ℕ) (u : Term ℕ) (op : Operation ℕ) (fs : List (Frame ℕ))
     → replay trees turns es ≡ Some k → slice_get k.threads t ≡ Some (state_of (Running u) used) → find same_loc 0 no_self u ≡ Needs op fs
-    → IsKnownOperation (IsPlace k.store) (IsThread k.threads) op
+    → IsKnownOperation (IsPlace k.store) (Counted (AreBounded trees) k.threads) op

@@ -13,6 +13,7 @@ pub mod Grammar
 pub mod Journal
 pub mod JournalText
 pub mod Located
+pub mod Leaves
 pub mod Maps
 pub mod Naturality
 pub mod Nodes

@@ -7,7 +7,8 @@ use Rattle.obq_base.specs.declared.occurrences.Occurrence.{Occurrence}
 use Rattle.obq_base.specs.Tree.{BlockTree, BlockOf, MaybeBlock, NoBlock, ABlock, ItemTrees, NoItems, AnItem, ItemTree, LetItem, VarItem, LetRecItem, AssignItem, FieldItem, IndexItem, PlainItem, BindTrees, NoBinds, ABind, RecBindTrees, NoRecBinds, ARecBind, ProcedureTree, AProc, FieldTree, ValueOf, MethodOf, AliasOf, ExprTree, IntTree, TextTree, TruthTree, OkTree, NameTree, ProcTree, ArrayTree, ObjectTree, IfTree, LoopTree, ExitTree, ForTree, ForeachTree, TryTree, FinallyTree, RaiseTree, WatchTree, RedirectTree, CloneTree, ChainTree, SuffixedTree, ExprTrees, NoExprs, AnExpr, LinkTrees, NoLinks, ALink, SuffixTree, ApplySuffix, SelectSuffix, InvokeSuffix, IndexSuffix, SuffixTrees, NoSuffixes, ASuffix, ArmTrees, NoArms, AnArm, FieldTrees, NoFields, AField}
 use Rattle.obq_model.specs.Put.{among}
 use Rattle.obq_model.specs.Occurrences.{free_arms, free_binds, free_block, free_expr, free_exprs, free_field, free_fields, free_item, free_items, free_links, free_maybe, free_members, free_procedure, free_suffix, free_suffixes, is_called, item_names, member_names, occurrence}
-use Rattle.obq_names.proofs.Unions.{Names, among-append}
+use Rattle.obq_model.proofs.Among.{among_append}
+use Rattle.obq_names.proofs.Unions.{Names}
 
 -- those whose name isn't among these
 abbrev pub besides : Names → List Occurrence → List Occurrence
@@ -23,12 +24,12 @@ further free outer inner names e = ap free (append_assoc outer inner names) ∙ 
 less_occurrence : (outer inner : Names) (called : Bool) (x : List ℕ) (place : ℕ) → occurrence (outer ++ inner) called x place ≡ besides outer (occurrence inner called x place)
 less_occurrence outer inner called x place = elim (cases_Bool (among x outer)) [
   | inl e ↦ elim (cases_Bool (among x inner)) [
-    | inl g ↦ rw (among-append x outer inner, e, g) refl
-    | inr g ↦ rw (among-append x outer inner, e, g) (rw e refl)
+    | inl g ↦ rw (among_append x outer inner, e, g) refl
+    | inr g ↦ rw (among_append x outer inner, e, g) (rw e refl)
   ]
   | inr e ↦ elim (cases_Bool (among x inner)) [
-    | inl g ↦ rw (among-append x outer inner, e, g) refl
-    | inr g ↦ rw (among-append x outer inner, e, g) (rw e refl)
+    | inl g ↦ rw (among_append x outer inner, e, g) refl
+    | inr g ↦ rw (among_append x outer inner, e, g) (rw e refl)
   ]
 ]
 

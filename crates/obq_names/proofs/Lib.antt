@@ -3,5 +3,5 @@ pub mod Longer
 pub mod Placed
 pub mod PlaceUpdates
 pub mod Unions
-pub mod Uses
+pub mod LastPlaces
 pub mod Walks

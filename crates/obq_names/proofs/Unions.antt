@@ -6,17 +6,11 @@ use Rattle.std.proofs.lemmas.Bool.{cases_Bool, true≢false}
 use Rattle.std.proofs.lemmas.List.{append-nil}
 use Rattle.std.proofs.lemmas.List.Elements.{filter-append}
 use Rattle.obq_model.specs.Put.{among}
+use Rattle.obq_model.proofs.Among.{among_append}
 use Rattle.obq_names.specs.Union.{union, with_name}
 
 abbrev pub Names : Type 0
 Names = List (List ℕ)
-
-pub among-append : (x : List ℕ) (xs ys : Names) → among x (xs ++ ys) ≡ (among x xs || among x ys)
-among-append x [] ys = refl
-among-append x (y ∷ xs) ys = elim (cases_Bool (bytes_eq x y)) [
-  | inl e ↦ rw e refl
-  | inr e ↦ rw e (among-append x xs ys)
-]
 
 -- a name that passes is among the ones that pass where it is among all
 pub among-filter : (f : List ℕ → Bool) (x : List ℕ) (xs : Names) → f x ≡ true → among x (filter f xs) ≡ among x xs
@@ -74,7 +68,7 @@ union-append names (x ∷ xs) ys = union-append (with_name x names) xs ys
 among-with_name : (y x : List ℕ) (names : Names) → among y names ≡ true → among y (with_name x names) ≡ true
 among-with_name y x names h = elim (cases_Bool (among x names)) [
   | inl e ↦ rw e h
-  | inr e ↦ rw e (among-append y names (x ∷ []) ∙ rw h refl)
+  | inr e ↦ rw e (among_append y names (x ∷ []) ∙ rw h refl)
 ]
 
 among-union : (y : List ℕ) (names xs : Names) → among y names ≡ true → among y (union names xs) ≡ true
@@ -88,7 +82,7 @@ is_itself x = (bytes_decides x x).1 refl
 puts_in : (x : List ℕ) (names : Names) → among x (with_name x names) ≡ true
 puts_in x names = elim (cases_Bool (among x names)) [
   | inl e ↦ rw e e
-  | inr e ↦ rw e (among-append x names (x ∷ []) ∙ rw (e, is_itself x) refl)
+  | inr e ↦ rw e (among_append x names (x ∷ []) ∙ rw (e, is_itself x) refl)
 ]
 
 among_put : (y : List ℕ) (names xs : Names) → among y xs ≡ true → among y (union names xs) ≡ true

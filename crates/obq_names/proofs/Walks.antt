@@ -10,13 +10,14 @@ use Rattle.obq_base.specs.Tree.{BlockTree, BlockOf, MaybeBlock, NoBlock, ABlock,
 use Rattle.obq_model.specs.Put.{among}
 use Rattle.obq_model.specs.Scopes.{last_place}
 use Rattle.obq_model.specs.Occurrences.{bind_names, block_names, free_arms, free_binds, free_block, free_expr, free_exprs, free_field, free_fields, free_item, free_items, free_links, free_maybe, free_members, free_procedure, free_suffix, free_suffixes, is_called, item_names, member_names, occurrence}
+use Rattle.obq_model.proofs.Among.{among_append}
 use Rattle.obq_names.specs.declared.walker.Walker.{Walker}
 use Rattle.obq_names.specs.Captures.{captures_arms, captures_binds, captures_block, captures_body, captures_expr, captures_exprs, captures_field, captures_fields, captures_item, captures_items, captures_links, captures_maybe, captures_members, captures_suffix, captures_suffixes}
 use Rattle.obq_names.specs.Union.{covered_names, names_of, union}
 use Rattle.obq_names.specs.Walked.{entered, left, outer_of, truncated, walk_arms, walk_binds, walk_block, walk_body, walk_expr, walk_exprs, walk_field, walk_fields, walk_item, walk_items, walk_links, walk_maybe, walk_members, walk_suffix, walk_suffixes, with_all_outer, with_binders, with_use}
 use Rattle.obq_names.proofs.Less.{besides, less_members, less_procedure}
-use Rattle.obq_names.proofs.Unions.{Names, among-append, filter_union, union-append, union_union}
-use Rattle.obq_names.proofs.Uses.{all_outer, is_outer, no_place, outer_place, own_place}
+use Rattle.obq_names.proofs.Unions.{Names, filter_union, union-append, union_union}
+use Rattle.obq_names.proofs.LastPlaces.{all_outer, is_outer, no_place, outer_place, own_place}
 
 -- a walk inside a procedure with these binders outside of it and of its own
 abbrev state : (outer own names : Names) → List Occurrence → List Names → Walker
@@ -98,12 +99,12 @@ uses outer own called x place = record {
   moves = λ names found captures. elim (cases_Bool (among x own)) [
     | inl e ↦
         let p : (k : ℕ) × (last_place x (outer ++ own) ≡ Some k) × (nat_lt k (length outer) ≡ false) = own_place x outer own e in
-        rw (p.1, among-append x outer own, e) (rw (p.2, or_true (among x outer)) (alike (length outer) _ _ _ _ _ _ _ _ refl refl (sym (append-nil found)) (sym (append-nil captures))))
+        rw (p.1, among_append x outer own, e) (rw (p.2, or_true (among x outer)) (alike (length outer) _ _ _ _ _ _ _ _ refl refl (sym (append-nil found)) (sym (append-nil captures))))
     | inr e ↦ elim (cases_Bool (among x outer)) [
       | inl g ↦
           let p : (k : ℕ) × (last_place x (outer ++ own) ≡ Some k) × (nat_lt k (length outer) ≡ true) = outer_place x outer own e g in
-          rw (p.1, among-append x outer own, e) (rw (p.2, g) (alike (length outer) _ _ _ _ _ _ _ _ refl refl (sym (append-nil found)) (sym (append-nil captures))))
-      | inr g ↦ rw (no_place x outer own e g, among-append x outer own, e) (rw g (alike (length outer) _ _ _ _ _ _ _ _ refl refl refl (sym (append-nil captures))))
+          rw (p.1, among_append x outer own, e) (rw (p.2, g) (alike (length outer) _ _ _ _ _ _ _ _ refl refl (sym (append-nil found)) (sym (append-nil captures))))
+      | inr g ↦ rw (no_place x outer own e g, among_append x outer own, e) (rw g (alike (length outer) _ _ _ _ _ _ _ _ refl refl refl (sym (append-nil captures))))
     ]
   ];
 }
@@ -121,7 +122,7 @@ outer_covered outer own (u ∷ us) = elim (cases_Bool (among u.name own)) [
 
 is_bound : (outer own : Names) (x : List ℕ) → is_outer outer own x ≡ true → among x (outer ++ own) ≡ true
 is_bound outer own x h = elim (cases_Bool (among x outer)) [
-  | inl g ↦ among-append x outer own ∙ rw g refl
+  | inl g ↦ among_append x outer own ∙ rw g refl
   | inr g ↦ absurd (true≢false (sym h ∙ rw g (and_false (not (among x own)))))
 ]
 

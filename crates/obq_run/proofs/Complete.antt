@@ -43,12 +43,12 @@ same_sources holds limit (p ∷ ps) (s ∷ ss) [] told held = absurd held
 
 -- ---- no count rose, no source is too long
 
-none_at : (Rises : List ℕ → Type 0) (paths : List (List ℕ)) (k : ℕ) → NoneRose Rises paths → IsSomeAnd (slice_get paths k) Rises → ⊥
+pub none_at : (Rises : List ℕ → Type 0) (paths : List (List ℕ)) (k : ℕ) → NoneRose Rises paths → IsSomeAnd (slice_get paths k) Rises → ⊥
 none_at Rises [] k none h = absurd h
 none_at Rises (p ∷ ps) zero none h = none.0 h
 none_at Rises (p ∷ ps) (suc k) none h = none_at Rises ps k none.1 h
 
-too_long_at : (holds : List ℕ → Option (List ℕ)) (limit : ℕ) (paths sources : List (List ℕ)) (k : ℕ) → AreTold holds paths sources → AllWithin limit sources
+pub too_long_at : (holds : List ℕ → Option (List ℕ)) (limit : ℕ) (paths sources : List (List ℕ)) (k : ℕ) → AreTold holds paths sources → AllWithin limit sources
     → IsSomeAnd (slice_get paths k) (λ p. WhereTold (holds p) (λ xs. limit < length xs)) → ⊥
 too_long_at holds limit [] sources k told within h = absurd h
 too_long_at holds limit (p ∷ ps) [] k told within h = absurd told
@@ -60,14 +60,14 @@ too_long_at holds limit (p ∷ ps) (s ∷ ss) (suc k) told within h = too_long_a
 -- ---- what is accepted has no fault
 
 -- tokens derive one tree
-same_tree : (tokens : List Token) (a b : Block) → Derives tokens a → Derives tokens b → a ≡ b
+pub same_tree : (tokens : List Token) (a b : Block) → Derives tokens a → Derives tokens b → a ≡ b
 same_tree tokens a b p q = let u = unique_block p.1 tt b _ q.1 tt in u.0
 
 -- a tree without an unbound name has no first one
 none_unbound : (tree : BlockTree) (name : List ℕ) (place : ℕ) → unbound tree ≡ [] → IsFirstUnbound tree name place → ⊥
 none_unbound tree name place none first = let lt : first.found.0 < length (unbound tree) = first.found.1 in absurd (omega (arith, lt, ap length none))
 
-not_faulty : (source : List ℕ) (tokens : List Token) (tree : Block) (fault : SourceFault) → IsAccepted source tokens tree → IsFault source fault → ⊥
+pub not_faulty : (source : List ℕ) (tokens : List Token) (tree : Block) (fault : SourceFault) → IsAccepted source tokens tree → IsFault source fault → ⊥
 not_faulty source tokens tree (Lexical kind place) accepted fault = no_fault_of_a_reading source tokens kind place accepted.reading fault
 not_faulty source tokens tree (Syntax k) accepted (others, is_read, fault) =
     tree_and_fault others tree k (subst (λ ts. Derives ts tree) (one_reading source tokens others accepted.reading is_read) accepted.derived) fault
@@ -76,7 +76,7 @@ not_faulty source tokens tree (Unbound name place) accepted (others, other, is_r
     let is : other ≡ tree = same_tree tokens other tree (subst (λ ts. Derives ts other) same derived) accepted.derived in
     none_unbound (block_tree tree) name place accepted.bound (subst (λ t. IsFirstUnbound (block_tree t) name place) is first)
 
-not_refused : {sources : List (List ℕ)} {k : ℕ} {fault : SourceFault} → (trees : List Block) → AreAccepted sources trees → IsFirstRefused sources k fault → ⊥
+pub not_refused : {sources : List (List ℕ)} {k : ℕ} {fault : SourceFault} → (trees : List Block) → AreAccepted sources trees → IsFirstRefused sources k fault → ⊥
 not_refused [] accepted (here h) = absurd accepted
 not_refused [] accepted (later one h) = absurd accepted
 not_refused {fault = fault} (tree ∷ trees) accepted (here {source} h) = not_faulty source accepted.0.0 tree fault accepted.0.1 h

@@ -10,9 +10,9 @@ use Rattle.obq_front.specs.Contents.{AllWithin, contents}
 use Rattle.obq_front.specs.declared.program.Source.{Source}
 use Rattle.obq_io.specs.Causes.{Rose}
 use Rattle.obq_io.specs.Known.{IsIt, WhereTold}
-use Rattle.obq_io.specs.Reads.{MatchUnread}
-use Rattle.obq_io.specs.declared.reading.Unread.{Unread}
-use Rattle.obq_io.specs.declared.reading.Unread.TheVariants.{Fault, NoMemory, TooLong}
+use Rattle.obq_io.specs.Reads.{MatchReadRefused}
+use Rattle.obq_io.specs.declared.reading.ReadRefused.{ReadRefused}
+use Rattle.obq_io.specs.declared.reading.ReadRefused.TheVariants.{Fault, NoMemory, TooLong}
 use Rattle.obq_run.specs.Held.{AreHeld, AreWithinLimit, IsFaultAt, IsTooLongAt, PathRose}
 use Rattle.obq_words.specs.declared.words.SiteWord.{SiteWord}
 use Rattle.obq_words.specs.Words.{paths_of}
@@ -85,10 +85,10 @@ rose_since : (start mid now : ℕ) → start ≤ mid → Rose mid now → Rose s
 rose_since start mid now le rose = omega (arith, le, rose)
 
 -- why the file of this site wasn't read, as those before it were
-pub unread_at : (holds before : List ℕ → Option (List ℕ)) (limit : ℕ) (start mid now : List ℕ → ℕ) (sites : List SiteWord) (i : ℕ) (site : SiteWord) (why : Unread) → i < length sites → site ≡ get_or sites i site
+pub unread_at : (holds before : List ℕ → Option (List ℕ)) (limit : ℕ) (start mid now : List ℕ → ℕ) (sites : List SiteWord) (i : ℕ) (site : SiteWord) (why : ReadRefused) → i < length sites → site ≡ get_or sites i site
     → AreWithinLimit holds limit (paths_of (take i sites)) → ((n : List ℕ) → before n ≡ holds n) → ((n : List ℕ) → start n ≤ mid n)
-    → MatchUnread why (Rose (mid (string_bytes site.path)) (now (string_bytes site.path))) (WhereTold (before (string_bytes site.path)) (λ xs. limit < length xs))
-    → MatchUnread why (IsFaultAt holds limit (PathRose start now) (paths_of sites) i) (IsTooLongAt holds limit (paths_of sites) i)
+    → MatchReadRefused why (Rose (mid (string_bytes site.path)) (now (string_bytes site.path))) (WhereTold (before (string_bytes site.path)) (λ xs. limit < length xs))
+    → MatchReadRefused why (IsFaultAt holds limit (PathRose start now) (paths_of sites) i) (IsTooLongAt holds limit (paths_of sites) i)
 unread_at holds before limit start mid now sites i site Fault lt is within same later h = (
   subst (AreWithinLimit holds limit) (sym (take-map (λ s. string_bytes s.path) i sites)) within,
   at_site (PathRose start now) sites i site lt is (rose_since (start (string_bytes site.path)) (mid (string_bytes site.path)) (now (string_bytes site.path)) (later (string_bytes site.path)) h),

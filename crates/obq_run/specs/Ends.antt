@@ -1,18 +1,18 @@
 -- Words on the cause of an end.
-use Rattle.std.specs.Prelude.{List, Option, [], slice_index_or, ℕ, ⊤, ◌⊎◌}
+use Rattle.std.specs.Prelude.{List, Option, [], slice_index_or, ℕ, ⊤, ◌≡◌, ◌⊎◌}
 use Rattle.std.specs.Io.KnownBytes.{Appends}
 use Rattle.obq_base.specs.declared.faults.SourceFault.{SourceFault}
 use Rattle.obq_front.specs.declared.program.FrontRefused.{FrontRefused}
 use Rattle.obq_front.specs.declared.program.FrontRefused.TheVariants as front
 use Rattle.obq_io.specs.Known.{GetsPrefix}
-use Rattle.obq_io.specs.declared.reading.Unread.{Unread}
-use Rattle.obq_io.specs.declared.reading.Unread.TheVariants as unread
+use Rattle.obq_io.specs.declared.reading.ReadRefused.{ReadRefused}
+use Rattle.obq_io.specs.declared.reading.ReadRefused.TheVariants as unread
 use Rattle.obq_model.specs.Output.{no_memory_line, not_yet_line, read_fault_line, refused_line, too_long_line, too_many_line, usage_line, write_fault_line}
 use Rattle.obq_run.specs.declared.ends.Cause.{Cause}
 use Rattle.obq_run.specs.declared.ends.Cause.TheVariants.{Checked, NoMemory, NotYet, Ran, ReadFault, Refused, SourceTooLong, TooManySites, Usage, WriteFault}
-use Rattle.obq_run.specs.declared.reading.Stopped.{Stopped}
-use Rattle.obq_run.specs.declared.run.Unrun.{Unrun}
-use Rattle.obq_run.specs.declared.run.Unrun.TheVariants as unrun
+use Rattle.obq_run.specs.declared.reading.SourcesRefused.{SourcesRefused}
+use Rattle.obq_run.specs.declared.run.RunRefused.{RunRefused}
+use Rattle.obq_run.specs.declared.run.RunRefused.TheVariants as unrun
 
 -- the status of a call that ended so, where a run ended with every thread ended by a value
 abbrev pub status_of : Cause → ℕ
@@ -148,6 +148,18 @@ IsNotYetOrNoMemory (NotYet source token) = ⊤
 IsNotYetOrNoMemory NoMemory = ⊤
 IsNotYetOrNoMemory cause = ⊥
 
+-- this source is refused with this fault, or no memory was left
+abbrev pub IsRefusedOrNoMemory : ℕ → SourceFault → Cause → Type 0
+IsRefusedOrNoMemory k fault (Refused source told) = (source ≡ k) × (told ≡ fault)
+IsRefusedOrNoMemory k fault NoMemory = ⊤
+IsRefusedOrNoMemory k fault cause = ⊥
+
+-- this source is too long, or no memory was left
+abbrev pub IsTooLongOrNoMemory : ℕ → Cause → Type 0
+IsTooLongOrNoMemory k (SourceTooLong source) = source ≡ k
+IsTooLongOrNoMemory k NoMemory = ⊤
+IsTooLongOrNoMemory k cause = ⊥
+
 -- it ran, and its output was written whole or not
 abbrev pub IsRunFinish : Cause → Type 0
 IsRunFinish Ran = ⊤
@@ -155,23 +167,23 @@ IsRunFinish WriteFault = ⊤
 IsRunFinish cause = ⊥
 
 -- the cause where a file wasn't read
-abbrev pub unread_cause : ℕ → Unread → Cause
+abbrev pub unread_cause : ℕ → ReadRefused → Cause
 unread_cause file unread.Fault = ReadFault file
 unread_cause file unread.TooLong = SourceTooLong file
 unread_cause file unread.NoMemory = NoMemory
 
-abbrev pub stop_cause : Stopped → Cause
-stop_cause s = unread_cause s.file s.why
+abbrev pub read_refusal_cause : SourcesRefused → Cause
+read_refusal_cause s = unread_cause s.file s.why
 
 -- P holds of the token where a source was not run
-abbrev pub IfUnrun : Unrun → (ℕ → Type 0) → Type 0
-IfUnrun (unrun.NotYet token) P = P token
-IfUnrun unrun.NoMemory P = ⊤
+abbrev pub IfRunRefused : RunRefused → (ℕ → Type 0) → Type 0
+IfRunRefused (unrun.NotYet token) P = P token
+IfRunRefused unrun.NoMemory P = ⊤
 
 -- the cause where the one source was not run
-abbrev pub unrun_cause : Unrun → Cause
-unrun_cause (unrun.NotYet token) = NotYet 0 token
-unrun_cause unrun.NoMemory = NoMemory
+abbrev pub run_refusal_cause : RunRefused → Cause
+run_refusal_cause (unrun.NotYet token) = NotYet 0 token
+run_refusal_cause unrun.NoMemory = NoMemory
 
 -- the cause where sources aren't accepted
 abbrev pub refusal_cause : FrontRefused → Cause

@@ -1,5 +1,5 @@
 -- Sources that were read, and sources that are told.
-use Rattle.std.specs.Prelude.{IsSomeAnd, List, Option, Some, [], length, slice_get, take, ℕ, ◌<◌, ◌≡◌, ◌≤◌, ◌∷◌}
+use Rattle.std.specs.Prelude.{IsSomeAnd, List, Option, Some, [], length, slice_get, suc, take, zero, ℕ, ◌<◌, ◌≡◌, ◌≤◌, ◌∷◌}
 use Rattle.obq_io.specs.Causes.{Rose}
 use Rattle.obq_io.specs.Known.{IsIt, WhereTold}
 
@@ -33,3 +33,9 @@ IsFaultAt holds limit Rises paths file = AreWithinLimit holds limit (take file p
 -- reading stopped at this file, which has more bytes than the limit, where that is told; the files before it are within the limit
 abbrev pub IsTooLongAt : (List ℕ → Option (List ℕ)) → ℕ → List (List ℕ) → ℕ → Type 0
 IsTooLongAt holds limit paths file = AreWithinLimit holds limit (take file paths) × IsSomeAnd (slice_get paths file) (λ p. WhereTold (holds p) (λ xs. limit < length xs))
+
+-- this path tells more bytes than the limit, and each path before it tells no more
+abbrev pub IsFirstTooLong : (List ℕ → Option (List ℕ)) → ℕ → List (List ℕ) → ℕ → Type 0
+IsFirstTooLong holds limit [] k = ⊥
+IsFirstTooLong holds limit (path ∷ paths) zero = IsSomeAnd (holds path) (λ xs. limit < length xs)
+IsFirstTooLong holds limit (path ∷ paths) (suc k) = IsSomeAnd (holds path) (λ xs. length xs ≤ limit) × IsFirstTooLong holds limit paths k

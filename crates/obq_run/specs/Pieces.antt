@@ -2,8 +2,8 @@
 use Rattle.std.specs.Prelude.{Err, List, Ok, Result, ℕ, ⊤, ◌≡◌}
 use Rattle.std.specs.Borrow.{Bor}
 use Rattle.obq_base.specs.declared.tokens.Token.{Token}
-use Rattle.obq_run.specs.declared.put_texts.Unreadable.{Unreadable}
-use Rattle.obq_run.specs.declared.put_texts.Unreadable.TheVariants.{At, NoMemory}
+use Rattle.obq_run.specs.declared.put_texts.TextsRefused.{TextsRefused}
+use Rattle.obq_run.specs.declared.put_texts.TextsRefused.TheVariants.{At, NoMemory}
 
 -- the references show what reading gives
 abbrev pub Shows : Result (Bor (List ℕ) × Bor (List Token)) ℕ → Result (List ℕ × List Token) ℕ → Type 0
@@ -11,6 +11,6 @@ Shows (Ok p) read = read ≡ Ok (p.0.now, p.1.now)
 Shows (Err n) read = read ≡ Err n
 
 -- where a token differs, P holds of its number
-abbrev pub IfAt : Unreadable → (ℕ → Type 0) → Type 0
+abbrev pub IfAt : TextsRefused → (ℕ → Type 0) → Type 0
 IfAt (At token) P = P token
 IfAt NoMemory P = ⊤

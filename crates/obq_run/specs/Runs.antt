@@ -1,5 +1,5 @@
 -- What a run and a check of sources are.
-use Rattle.std.specs.Prelude.{List, None, Option, Some, [], length, map, slice_get, ℕ, ◌≡◌, ◌≤◌, ◌∷◌}
+use Rattle.std.specs.Prelude.{List, None, Option, Some, [], length, map, slice_get, suc, take, ℕ, ◌≡◌, ◌≤◌, ◌∷◌}
 use Rattle.std.specs.List.{zip}
 use Rattle.obq_base.specs.declared.acts.Report.{Report}
 use Rattle.obq_base.specs.declared.faults.SourceFault.{SourceFault}
@@ -14,10 +14,11 @@ use Rattle.obq_model.specs.PutTexts.{IsPutTexts, StopsAt}
 use Rattle.obq_model.specs.Replay.{IsOver, TakeTurns, output, replay, report, status}
 use Rattle.obq_model.specs.Sources.{AreAccepted, IsFirstRefused}
 use Rattle.obq_model.specs.Tokens.{IsReading}
+use Rattle.obq_journal.specs.Recording.{shown}
 use Rattle.obq_run.specs.declared.ends.Cause.{Cause}
 use Rattle.obq_run.specs.declared.history.Ran.{Ran}
-use Rattle.obq_run.specs.Ends.{IsCheckedOrNoMemory, IsNotYetOrNoMemory, IsRanOrNoMemory}
-use Rattle.obq_run.specs.Held.{AreHeld, AreTold}
+use Rattle.obq_run.specs.Ends.{IsCheckedOrNoMemory, IsNotYetOrNoMemory, IsRanOrNoMemory, IsRefusedOrNoMemory, IsTooLongOrNoMemory}
+use Rattle.obq_run.specs.Held.{AreHeld, AreTold, IsFirstTooLong}
 
 -- one thread, which has ended by a value
 abbrev pub one_ended : Report
@@ -62,7 +63,7 @@ pub record RunsOf (holds : List ℕ → Option (List ℕ)) (limit : ℕ) (paths 
   pub source : List ℕ
   pub held : AreHeld holds limit paths (source ∷ [])
   pub form : OnlyWrites source
-  pub end : IsEndOf (source ∷ []) turns ran.journal (ran.bytes.items ∷ []) one_ended
+  pub end : IsEndOf (source ∷ []) turns (shown ran.journal) (ran.bytes.items ∷ []) one_ended
 
 -- Of sources within the limit, which are what the paths hold where they tell that, this one is the first that has a fault, and this is its first.
 pub record IsRefusalOf (holds : List ℕ → Option (List ℕ)) (limit : ℕ) (paths : List (List ℕ)) (k : ℕ) (fault : SourceFault) : Type 0 where
@@ -115,3 +116,14 @@ abbrev pub CheckCompletes : (List ℕ → Option (List ℕ)) → ℕ → List (L
 CheckCompletes holds limit paths Rises output_rose cause =
     (sources : List (List ℕ)) (trees : List Block) → AreTold holds paths sources → AllWithin limit sources → AreAccepted sources trees → NoneRose Rises paths → ¬ output_rose
     → IsCheckedOrNoMemory cause
+
+-- Where the paths hold sources within the limit, this one is the first that has a fault, this is its first, and no count of faults rose, that source
+-- is refused with that fault, or there was no memory.
+abbrev pub RefusalCompletes : (List ℕ → Option (List ℕ)) → ℕ → List (List ℕ) → (List ℕ → Type 0) → Cause → Type 0
+RefusalCompletes holds limit paths Rises cause =
+    (sources : List (List ℕ)) (k : ℕ) (fault : SourceFault) → AreTold holds paths sources → AllWithin limit sources → IsFirstRefused sources k fault → NoneRose Rises paths
+    → IsRefusedOrNoMemory k fault cause
+
+-- Where this path is the first that holds more than the limit, and no count of faults rose up to it, the cause says so, or there was no memory.
+abbrev pub TooLongCompletes : (List ℕ → Option (List ℕ)) → ℕ → List (List ℕ) → (List ℕ → Type 0) → Cause → Type 0
+TooLongCompletes holds limit paths Rises cause = (k : ℕ) → IsFirstTooLong holds limit paths k → NoneRose Rises (take (suc k) paths) → IsTooLongOrNoMemory k cause

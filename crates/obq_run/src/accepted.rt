@@ -2,29 +2,29 @@
 
 ghost use Rattle.std.specs.Prelude.{◌≡◌, ◌<◌, ◌≤◌, IfErr, IfOk, List, length, ℕ};
 ghost use Rattle.obq_front.specs.Contents.{IsProgram, contents};
-ghost use Rattle.obq_run.specs.Ends.{IfReadFault, IfRefused, IfTooLong, IsCheckRefusal, refusal_cause, stop_cause};
+ghost use Rattle.obq_run.specs.Ends.{IfReadFault, IfRefused, IfTooLong, IsCheckRefusal, refusal_cause, read_refusal_cause};
 ghost use Rattle.obq_run.specs.Held.{AreHeld, IsFaultAt, IsTooLongAt, PathRose};
 ghost use Rattle.obq_run.specs.Runs.{IsRefusalOf};
 ghost use Rattle.obq_words.specs.Words.{paths_of};
 
 use crate::ends::Cause;
-use crate::reading::{Stopped, read_sources};
+use crate::reading::{SourcesRefused, read_sources};
 use obq_base::limits::SOURCE_LIMIT;
 use obq_front::{FrontRefused, Program, Source, front};
-use obq_io::{Files, Unread};
+use obq_io::{Files, ReadRefused};
 use obq_words::SiteWord;
 use std::alloc::Global;
 
 /// The cause where a file wasn't read.
-fn cause_of_stop(stopped: Stopped) -> Cause
-    ensures { result ≡ stop_cause stopped }
+fn cause_of(refused: SourcesRefused) -> Cause
+    ensures { result ≡ read_refusal_cause refused }
 {
-    match stopped.why {
-        Unread::Fault => Cause::ReadFault { file: stopped.file },
-        Unread::TooLong => Cause::SourceTooLong {
-            source: stopped.file,
+    match refused.why {
+        ReadRefused::Fault => Cause::ReadFault { file: refused.file },
+        ReadRefused::TooLong => Cause::SourceTooLong {
+            source: refused.file,
         },
-        Unread::NoMemory => Cause::NoMemory,
+        ReadRefused::NoMemory => Cause::NoMemory,
     }
 }
 
@@ -62,7 +62,7 @@ pub fn accepted_sources<F: Files>(
 {
     let sources = match read_sources(alloc, files, sites) {
         Ok(sources) => sources,
-        Err(stopped) => return Err(cause_of_stop(stopped)),
+        Err(refused) => return Err(cause_of(refused)),
     };
     match front(alloc, &sources) {
         Ok(program) => Ok(Accepted { sources, program }),

@@ -7,16 +7,16 @@ ghost use Rattle.obq_io.specs.Known.{GetsPrefix};
 ghost use Rattle.obq_model.specs.Output.{check_text};
 ghost use Rattle.obq_run.specs.Ends.{GetsLine, IfReadFault, IfRefused, IfTooLong, IsCheckEnd, IsCheckFinish, IsCheckRefusal, IsRefusal, OnChecked, OnWriteFault, line_of, status_of};
 ghost use Rattle.obq_run.specs.Held.{IsFaultAt, IsTooLongAt, PathRose};
-ghost use Rattle.obq_run.specs.Runs.{CheckCompletes, IsCheckOf, IsRefusalOf};
+ghost use Rattle.obq_run.specs.Runs.{CheckCompletes, IsCheckOf, IsRefusalOf, RefusalCompletes, TooLongCompletes};
 ghost use Rattle.obq_words.specs.Words.{AreInForm, names_of, paths_of};
 
 use crate::accepted::accepted_sources;
 use crate::ends::{Cause, End, status_for};
-use crate::journals::Journal;
 use crate::run::refuse;
 use crate::texts::{write_cause, write_checked};
 use obq_base::limits::SOURCE_LIMIT;
 use obq_io::{Files, Sink};
+use obq_journal::Journal;
 use obq_words::SiteWord;
 use std::alloc::Global;
 
@@ -86,6 +86,8 @@ pub fn check_sources<F: Files, O: Sink, E: Sink>(
         × GetsPrefix (O.written out.old) (O.written out.new) (check_text (names_of sites.now))) }
     ensures status { result.status ≡ status_of result.cause }
     ensures completes { CheckCompletes (F.holds files.old) SOURCE_LIMIT (paths_of sites.now) (PathRose (F.faults files.old) (F.faults files.new)) (Rose (O.faults out.old) (O.faults out.new)) result.cause }
+    ensures completes_refused { RefusalCompletes (F.holds files.old) SOURCE_LIMIT (paths_of sites.now) (PathRose (F.faults files.old) (F.faults files.new)) result.cause }
+    ensures completes_too_long { TooLongCompletes (F.holds files.old) SOURCE_LIMIT (paths_of sites.now) (PathRose (F.faults files.old) (F.faults files.new)) result.cause }
 
     // A refusal writes nothing but its line.
     ensures unwritten { IsRefusal result.cause → out.new ≡ out.old }

@@ -3,8 +3,8 @@
 ghost use Rattle.std.specs.Prelude.{◌≡◌};
 ghost use Rattle.obq_run.specs.Ends.{status_of};
 
-use crate::journals::Journal;
 use obq_base::SourceFault;
+use obq_journal::Journal;
 
 /// Why a call ended as it did. Words count from 0, the program's name left out; sources and files
 /// from 0 in word order.

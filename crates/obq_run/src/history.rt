@@ -2,10 +2,11 @@
 
 ghost use Rattle.std.specs.Prelude.{◌≡◌, IfOk, if◌then◌else◌};
 ghost use Rattle.std.specs.List.{flat_map};
+ghost use Rattle.obq_journal.specs.Recording.{shown};
 ghost use Rattle.obq_run.specs.History.{end_after, entries_of, put_after};
 
-use crate::journals::Journal;
 use obq_base::{Act, ActKind, Entry, NoMemory, Text};
+use obq_journal::Journal;
 use std::alloc::Global;
 
 /// A run that is over: its journal, and the bytes of its writer.
@@ -45,7 +46,7 @@ fn end_entry(empty: bool) -> Entry
 
 /// Writes the texts in order, and ends.
 pub fn run_texts(alloc: Global, texts: &[Text], turns: u32) -> Result<Ran, NoMemory>
-    ensures journal { IfOk result (λ r. r.journal ≡ record { turns = turns; entries = entries_of texts.now }) }
+    ensures journal { IfOk result (λ r. shown r.journal ≡ record { turns = turns; entries = entries_of texts.now }) }
     ensures bytes { IfOk result (λ r. r.bytes.items ≡ flat_map (λ t. t) texts.now) }
 {
     let mut journal = Journal::new(alloc, turns);

@@ -6,7 +6,6 @@ mod accepted;
 mod check;
 mod ends;
 mod history;
-mod journals;
 mod put_texts;
 mod reading;
 mod run;
@@ -15,6 +14,6 @@ mod top;
 
 pub use check::check_sources;
 pub use ends::{Cause, End};
-pub use journals::Journal;
 pub use obq_base::{Entry, SourceFault};
+pub use obq_journal::Journal;
 pub use top::obliq;

@@ -10,7 +10,7 @@ use std::alloc::Global;
 
 /// Why a source doesn't run yet.
 #[derive(Clone, Copy, Debug, PartialEq, Eq)]
-pub enum Unreadable {
+pub enum TextsRefused {
     /// The first token that differs from those of a source that runs.
     At { token: u32 },
     NoMemory,
@@ -114,7 +114,7 @@ fn group_of(tokens: &[Token]) -> Result<(&Text, &[Token]), u32>
 }
 
 /// The texts that the tokens write, or the first token that differs from those of such a source.
-pub fn read_texts(alloc: Global, tokens: &[Token]) -> Result<Vec<Text>, Unreadable>
+pub fn read_texts(alloc: Global, tokens: &[Token]) -> Result<Vec<Text>, TextsRefused>
     requires { length tokens.now < 2 ^ 31 }
     ensures { MatchResult result (λ texts. IsPutTexts tokens.now texts.items) (λ why. IfAt why (StopsAt tokens.now)) }
 {
@@ -127,7 +127,7 @@ pub fn read_texts(alloc: Global, tokens: &[Token]) -> Result<Vec<Text>, Unreadab
                 rest = behind;
             }
             Err(n) => {
-                return Err(Unreadable::At {
+                return Err(TextsRefused::At {
                     token: 7 * texts.len() as u32 + n,
                 });
             }
@@ -137,15 +137,15 @@ pub fn read_texts(alloc: Global, tokens: &[Token]) -> Result<Vec<Text>, Unreadab
 }
 
 /// Appends a copy of the text.
-fn push_text(alloc: Global, texts: &mut Vec<Text>, text: &Text) -> Result<(), Unreadable>
+fn push_text(alloc: Global, texts: &mut Vec<Text>, text: &Text) -> Result<(), TextsRefused>
     ensures ok { OnOk result (texts.new.items ≡ texts.old.items ++ text.now ∷ []) }
-    ensures err { IfErr result (λ why. why ≡ Unreadable.NoMemory) }
+    ensures err { IfErr result (λ why. why ≡ TextsRefused.NoMemory) }
 {
     let Ok(copy) = text.copy(alloc) else {
-        return Err(Unreadable::NoMemory);
+        return Err(TextsRefused::NoMemory);
     };
     if texts.push(copy).is_err() {
-        return Err(Unreadable::NoMemory);
+        return Err(TextsRefused::NoMemory);
     }
     Ok(())
 }

@@ -8,62 +8,63 @@ ghost use Rattle.obq_io.specs.Causes.{Rose};
 ghost use Rattle.obq_io.specs.Known.{GetsPrefix};
 ghost use Rattle.obq_model.specs.Output.{run_text};
 ghost use Rattle.obq_model.specs.Sources.{AreAccepted};
-ghost use Rattle.obq_run.specs.Ends.{GetsLine, IfNotYet, IfReadFault, IfRefused, IfTooLong, IfUnrun, IsRefusal, IsRunEnd, IsRunFinish, IsRunRefusal, OnRan, OnWriteFault, line_of, status_of, unrun_cause};
+ghost use Rattle.obq_journal.specs.Recording.{shown};
+ghost use Rattle.obq_run.specs.Ends.{GetsLine, IfNotYet, IfReadFault, IfRefused, IfTooLong, IfRunRefused, IsRefusal, IsRunEnd, IsRunFinish, IsRunRefusal, OnRan, OnWriteFault, line_of, status_of, run_refusal_cause};
 ghost use Rattle.obq_run.specs.Held.{IsFaultAt, IsTooLongAt, PathRose};
-ghost use Rattle.obq_run.specs.Runs.{IsEndOf, IsNotYetOf, IsRefusalOf, IsRunOf, NotYetCompletes, OnlyWrites, RunCompletes, RunsOf, StopsRun, one_ended};
+ghost use Rattle.obq_run.specs.Runs.{IsEndOf, IsNotYetOf, IsRefusalOf, IsRunOf, NotYetCompletes, OnlyWrites, RefusalCompletes, RunCompletes, RunsOf, StopsRun, TooLongCompletes, one_ended};
 ghost use Rattle.obq_words.specs.Words.{AreInForm, names_of, paths_of};
 
 use crate::accepted::accepted_sources;
 use crate::ends::{Cause, End, status_for};
 use crate::history::{Ran, run_texts};
-use crate::journals::Journal;
-use crate::put_texts::{Unreadable, read_texts};
+use crate::put_texts::{TextsRefused, read_texts};
 use crate::texts::{write_cause, write_run};
 use obq_base::Report;
 use obq_base::limits::{DEFAULT_TURNS, SOURCE_LIMIT};
 use obq_io::{Files, Sink};
+use obq_journal::Journal;
 use obq_lex::{LexRefused, lex};
 use obq_words::SiteWord;
 use std::alloc::Global;
 
 /// Why a source was not run.
-pub enum Unrun {
+pub enum RunRefused {
     /// The first token that differs from those of a source that runs.
     NotYet { token: u32 },
     NoMemory,
 }
 
 /// Runs an accepted source, without writing anything.
-fn run_source(alloc: Global, source: &[u8]) -> Result<Ran, Unrun>
+fn run_source(alloc: Global, source: &[u8]) -> Result<Ran, RunRefused>
     requires within { length source.now ≤ SOURCE_LIMIT }
     requires accepted { (trees : List Block) × AreAccepted (source.now ∷ []) trees }
-    ensures ran { IfOk result (λ r. IsEndOf (source.now ∷ []) DEFAULT_TURNS r.journal (r.bytes.items ∷ []) one_ended) }
+    ensures ran { IfOk result (λ r. IsEndOf (source.now ∷ []) DEFAULT_TURNS (shown r.journal) (r.bytes.items ∷ []) one_ended) }
     ensures form { IfOk result (λ r. OnlyWrites source.now) }
-    ensures unrun { IfErr result (λ why. IfUnrun why (StopsRun (source.now ∷ []) 0)) }
+    ensures unrun { IfErr result (λ why. IfRunRefused why (StopsRun (source.now ∷ []) 0)) }
 {
     let tokens = match lex(alloc, source) {
         Ok(tokens) => tokens,
         Err(LexRefused::Fault { kind: _, place: _ }) => unreachable!(),
-        Err(LexRefused::NoMemory) => return Err(Unrun::NoMemory),
+        Err(LexRefused::NoMemory) => return Err(RunRefused::NoMemory),
     };
     let texts = match read_texts(alloc, &tokens) {
         Ok(texts) => texts,
-        Err(Unreadable::At { token }) => return Err(Unrun::NotYet { token }),
-        Err(Unreadable::NoMemory) => return Err(Unrun::NoMemory),
+        Err(TextsRefused::At { token }) => return Err(RunRefused::NotYet { token }),
+        Err(TextsRefused::NoMemory) => return Err(RunRefused::NoMemory),
     };
     match run_texts(alloc, &texts, DEFAULT_TURNS) {
         Ok(ran) => Ok(ran),
-        Err(_) => Err(Unrun::NoMemory),
+        Err(_) => Err(RunRefused::NoMemory),
     }
 }
 
 /// The cause where the one source was not run.
-fn cause_of_unrun(unrun: Unrun) -> Cause
-    ensures { result ≡ unrun_cause unrun }
+fn cause_of_unrun(unrun: RunRefused) -> Cause
+    ensures { result ≡ run_refusal_cause unrun }
 {
     match unrun {
-        Unrun::NotYet { token } => Cause::NotYet { source: 0, token },
-        Unrun::NoMemory => Cause::NoMemory,
+        RunRefused::NotYet { token } => Cause::NotYet { source: 0, token },
+        RunRefused::NoMemory => Cause::NoMemory,
     }
 }
 
@@ -113,7 +114,7 @@ pub fn refuse<E: Sink>(alloc: Global, err: &mut E, sites: &[SiteWord], cause: Ca
 /// The end of a call whose source ran: its output is written.
 fn finish<O: Sink, E: Sink>(out: &mut O, err: &mut E, sites: &[SiteWord], ran: Ran) -> End
     requires { length sites.now ≡ 1 }
-    ensures journal { result.journal ≡ ran.journal }
+    ensures journal { shown result.journal ≡ shown ran.journal }
     ensures ran { OnRan result.cause (Appends (O.written out.old) (O.written out.new) (run_text (zip (names_of sites.now) (ran.bytes.items ∷ [])) one_ended)) }
     ensures part { OnWriteFault result.cause (GetsPrefix (O.written out.old) (O.written out.new) (run_text (zip (names_of sites.now) (ran.bytes.items ∷ [])) one_ended)) }
     ensures write_fault { OnWriteFault result.cause (Rose (O.faults out.old) (O.faults out.new)) }
@@ -163,13 +164,15 @@ pub fn run_sites<F: Files, O: Sink, E: Sink>(
     ensures write_fault { OnWriteFault result.cause (Rose (O.faults out.old) (O.faults out.new)) }
 
     // The journal is a history of the sources, and what is written is its output.
-    ensures ran { OnRan result.cause ((text : List ℕ) × IsRunOf (F.holds files.old) SOURCE_LIMIT (names_of sites.now) (paths_of sites.now) DEFAULT_TURNS result.journal text result.status
+    ensures ran { OnRan result.cause ((text : List ℕ) × IsRunOf (F.holds files.old) SOURCE_LIMIT (names_of sites.now) (paths_of sites.now) DEFAULT_TURNS (shown result.journal) text result.status
         × Appends (O.written out.old) (O.written out.new) text) }
-    ensures part { OnWriteFault result.cause ((text : List ℕ) × (ended : ℕ) × IsRunOf (F.holds files.old) SOURCE_LIMIT (names_of sites.now) (paths_of sites.now) DEFAULT_TURNS result.journal text ended
+    ensures part { OnWriteFault result.cause ((text : List ℕ) × (ended : ℕ) × IsRunOf (F.holds files.old) SOURCE_LIMIT (names_of sites.now) (paths_of sites.now) DEFAULT_TURNS (shown result.journal) text ended
         × GetsPrefix (O.written out.old) (O.written out.new) text) }
     ensures status { result.status ≡ status_of result.cause }
     ensures completes { RunCompletes (F.holds files.old) SOURCE_LIMIT (paths_of sites.now) (PathRose (F.faults files.old) (F.faults files.new)) (Rose (O.faults out.old) (O.faults out.new)) result.cause }
     ensures completes_not_yet { NotYetCompletes (F.holds files.old) SOURCE_LIMIT (paths_of sites.now) (PathRose (F.faults files.old) (F.faults files.new)) (Rose (O.faults out.old) (O.faults out.new)) result.cause }
+    ensures completes_refused { RefusalCompletes (F.holds files.old) SOURCE_LIMIT (paths_of sites.now) (PathRose (F.faults files.old) (F.faults files.new)) result.cause }
+    ensures completes_too_long { TooLongCompletes (F.holds files.old) SOURCE_LIMIT (paths_of sites.now) (PathRose (F.faults files.old) (F.faults files.new)) result.cause }
 
     // A refusal writes nothing but its line.
     ensures unwritten { IsRefusal result.cause → out.new ≡ out.old }

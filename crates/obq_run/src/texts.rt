@@ -12,6 +12,7 @@ ghost use Rattle.obq_words.specs.Words.{names_of};
 use crate::ends::Cause;
 use itoa::Buffer;
 use obq_base::{LexKind, Report, SourceFault};
+use obq_ends::report_line;
 use obq_io::{Failed, Sink, write_pieces};
 use obq_words::SiteWord;
 
@@ -35,24 +36,7 @@ fn write_report<S: Sink>(out: &mut S, report: Report) -> Result<(), Failed>
     ensures prefix { GetsPrefix (S.written out.old) (S.written out.new) (report_line report) }
     ensures cause { HasCause (S.faults out.old) (S.faults out.new) result }
 {
-    let mut ended = Buffer::new();
-    let mut raised = Buffer::new();
-    let mut waiting = Buffer::new();
-    let mut spent = Buffer::new();
-    write_pieces(
-        out,
-        &[
-            b"threads ended ",
-            ended.format(report.ended).as_bytes(),
-            b" raised ",
-            raised.format(report.raised).as_bytes(),
-            b" waiting ",
-            waiting.format(report.waiting).as_bytes(),
-            b" spent ",
-            spent.format(report.spent).as_bytes(),
-            b"\n",
-        ],
-    )
+    report_line(report).write_to(out)
 }
 
 /// Writes the output of a run at one site.

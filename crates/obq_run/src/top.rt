@@ -6,9 +6,10 @@ ghost use Rattle.obq_io.specs.Causes.{Rose};
 ghost use Rattle.obq_io.specs.Known.{GetsPrefix};
 ghost use Rattle.obq_model.specs.CommandLine.{TooManyAt, UsageAt, bad_word, is_checking};
 ghost use Rattle.obq_model.specs.Output.{check_text};
+ghost use Rattle.obq_journal.specs.Recording.{shown};
 ghost use Rattle.obq_run.specs.Ends.{GetsLine, IfNotYet, IfReadFault, IfRefused, IfTooLong, IsRefusal, MatchWords, OnChecked, OnRan, OnWriteFault, line_of, status_of};
 ghost use Rattle.obq_run.specs.Held.{IsFaultAt, IsTooLongAt, PathRose};
-ghost use Rattle.obq_run.specs.Runs.{CheckCompletes, IsCheckOf, IsNotYetOf, IsRefusalOf, IsRunOf, NotYetCompletes, RunCompletes};
+ghost use Rattle.obq_run.specs.Runs.{CheckCompletes, IsCheckOf, IsNotYetOf, IsRefusalOf, IsRunOf, NotYetCompletes, RefusalCompletes, RunCompletes, TooLongCompletes};
 ghost use Rattle.obq_words.specs.Words.{bytes_of, given_names, given_paths};
 
 use crate::check::check_sources;
@@ -44,10 +45,10 @@ pub fn obliq<R: Threads + Wait + Sync, F: Files, O: Sink, E: Sink, G: Gate>(
     // The journal of a run is a history of its sources, and what is written is the output of that
     // history.
     ensures ran { OnRan result.cause ((text : List ℕ)
-        × IsRunOf (F.holds files.old) SOURCE_LIMIT (given_names (bytes_of words.now)) (given_paths (bytes_of words.now)) DEFAULT_TURNS result.journal text result.status
+        × IsRunOf (F.holds files.old) SOURCE_LIMIT (given_names (bytes_of words.now)) (given_paths (bytes_of words.now)) DEFAULT_TURNS (shown result.journal) text result.status
         × Appends (O.written out.old) (O.written out.new) text) }
     ensures part { is_checking (bytes_of words.now) ≡ false → OnWriteFault result.cause ((text : List ℕ)
-        × (ended : ℕ) × IsRunOf (F.holds files.old) SOURCE_LIMIT (given_names (bytes_of words.now)) (given_paths (bytes_of words.now)) DEFAULT_TURNS result.journal text ended
+        × (ended : ℕ) × IsRunOf (F.holds files.old) SOURCE_LIMIT (given_names (bytes_of words.now)) (given_paths (bytes_of words.now)) DEFAULT_TURNS (shown result.journal) text ended
         × GetsPrefix (O.written out.old) (O.written out.new) text) }
 
     // What is checked is accepted, and that is what is written.
@@ -67,6 +68,10 @@ pub fn obliq<R: Threads + Wait + Sync, F: Files, O: Sink, E: Sink, G: Gate>(
         → NotYetCompletes (F.holds files.old) SOURCE_LIMIT (given_paths (bytes_of words.now)) (PathRose (F.faults files.old) (F.faults files.new)) (Rose (O.faults out.old) (O.faults out.new)) result.cause }
     ensures completes_check { bad_word (bytes_of words.now) ≡ None → is_checking (bytes_of words.now) ≡ true
         → CheckCompletes (F.holds files.old) SOURCE_LIMIT (given_paths (bytes_of words.now)) (PathRose (F.faults files.old) (F.faults files.new)) (Rose (O.faults out.old) (O.faults out.new)) result.cause }
+    ensures completes_refused { bad_word (bytes_of words.now) ≡ None
+        → RefusalCompletes (F.holds files.old) SOURCE_LIMIT (given_paths (bytes_of words.now)) (PathRose (F.faults files.old) (F.faults files.new)) result.cause }
+    ensures completes_too_long { bad_word (bytes_of words.now) ≡ None
+        → TooLongCompletes (F.holds files.old) SOURCE_LIMIT (given_paths (bytes_of words.now)) (PathRose (F.faults files.old) (F.faults files.new)) result.cause }
 
     // A refusal writes nothing but its line.
     ensures unwritten { IsRefusal result.cause → out.new ≡ out.old }

@@ -1,28 +1,17 @@
 -- Which names the binders in force cover, and what a procedure captures of the names ahead.
-use Rattle.std.proofs.Common.{◌≡◌, ◌∙◌, ◌⊎◌, inl, inr, ℕ, Bool, true, false, ◌||◌, List, [], ◌∷◌, ◌++◌, refl, ap, sym}
+use Rattle.std.proofs.Common.{◌≡◌, ◌∙◌, inl, inr, ℕ, true, false, ◌||◌, List, [], ◌∷◌, ◌++◌, refl, ap, sym}
 use Rattle.std.specs.List.{filter}
 use Rattle.std.proofs.lemmas.Bool.{cases_Bool, true≢false}
 use Rattle.obq_base.specs.declared.occurrences.Occurrence.{Occurrence}
 use Rattle.obq_model.specs.Put.{among}
 use Rattle.obq_model.specs.Scopes.{Outside, captured_from, captured_of, inside, is_covered, outermost}
+use Rattle.obq_model.proofs.Among.{among_append, either, left_of, right_of}
 use Rattle.obq_names.specs.Union.{covered_names, names_of, union, with_name}
-use Rattle.obq_names.proofs.Unions.{Names, among-append, filter_union, passes}
+use Rattle.obq_names.proofs.Unions.{Names, filter_union, passes}
 
 -- what a code's binders cover is among these
 pub record Covers (o : Outside) (locals bound : Names) : Type 0 where
   pub covers : (x : List ℕ) → is_covered o locals x ≡ true → among x bound ≡ true
-
-either : (a b : Bool) → (a || b) ≡ true → (a ≡ true) ⊎ (b ≡ true)
-either true b h = inl refl
-either false b h = inr h
-
-left_of : (a b : Bool) → a ≡ true → (a || b) ≡ true
-left_of true b h = refl
-left_of false b h = absurd (true≢false (sym h))
-
-right_of : (a b : Bool) → b ≡ true → (a || b) ≡ true
-right_of true b h = refl
-right_of false b h = h
 
 pub covers_nothing : (source : ℕ) → Covers (outermost source) [] []
 covers_nothing source = record { covers = λ x h. absurd (true≢false (sym h)) }
@@ -31,8 +20,8 @@ covers_nothing source = record { covers = λ x h. absurd (true≢false (sym h)) 
 pub covers_more : (o : Outside) (locals bound names : Names) → Covers o locals bound → Covers o (locals ++ names) (bound ++ names)
 covers_more o locals bound names c = record {
   covers = λ x h.
-      let e : ((among x locals || among x names) || (among x o.members || among x o.captured)) ≡ true = sym (ap (λ b. b || (among x o.members || among x o.captured)) (among-append x locals names)) ∙ h in
-      among-append x bound names ∙ elim (either (among x locals || among x names) (among x o.members || among x o.captured) e) [
+      let e : ((among x locals || among x names) || (among x o.members || among x o.captured)) ≡ true = sym (ap (λ b. b || (among x o.members || among x o.captured)) (among_append x locals names)) ∙ h in
+      among_append x bound names ∙ elim (either (among x locals || among x names) (among x o.members || among x o.captured) e) [
         | inl f ↦ elim (either (among x locals) (among x names) f) [
           | inl g ↦ left_of (among x bound) (among x names) (c.covers x (left_of (among x locals) (among x o.members || among x o.captured) g))
           | inr g ↦ right_of (among x bound) (among x names) g
@@ -76,7 +65,7 @@ covers_inside o locals bound us c = record { covers = λ x h. captured_covers o 
 pub covers_group : (o : Outside) (locals bound members : Names) (us : List Occurrence) → Covers o locals bound → Covers (inside o members (captured_of o locals us)) [] (bound ++ members)
 covers_group o locals bound members us c = record {
   covers = λ x h.
-      among-append x bound members ∙ elim (either (among x members) (among x (captured_of o locals us)) h) [
+      among_append x bound members ∙ elim (either (among x members) (among x (captured_of o locals us)) h) [
         | inl f ↦ right_of (among x bound) (among x members) f
         | inr f ↦ left_of (among x bound) (among x members) (captured_covers o locals bound us c x f)
       ];

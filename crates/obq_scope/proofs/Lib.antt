@@ -4,4 +4,7 @@ pub mod Covered
 pub mod Once
 pub mod Passed
 pub mod Resolving
+pub mod Rooms
+pub mod Sized
 pub mod Standing
+pub mod Stepping

@@ -7,11 +7,12 @@ use Rattle.obq_scope.specs.declared.coder.Coder.{Coder}
 use Rattle.obq_scope.specs.declared.emitter.Emitter.{Emitter}
 use Rattle.obq_scope.specs.declared.outside.Outside.{Outside}
 use Rattle.obq_scope.specs.Coded.{inner, whole}
-use Rattle.obq_scope.specs.Seen.{seen}
+use Rattle.obq_scope.specs.Narrowed.{narrowed}
+use Rattle.obq_scope.specs.Outsides.{outside_of}
 
 -- this is made in the code, under its binders in force
 abbrev pub after : (model.Outside → List Bytes → Emitter → Emitter) → Coder → Coder
-after f s = record { alloc = s.alloc; outside = s.outside; locals = s.locals; emitter = f (seen s.outside) s.locals s.emitter }
+after f s = record { alloc = s.alloc; outside = s.outside; locals = s.locals; emitter = f (outside_of s.outside) s.locals s.emitter }
 
 -- more binders
 abbrev pub under : List Bytes → Coder → Coder
@@ -34,4 +35,4 @@ around_of s = record { locals = s.locals; nodes = s.emitter.output.nodes }
 
 -- it is whole
 abbrev pub finished : (params : ℕ) → Around → Coder → Coder
-finished params around s = record { alloc = s.alloc; outside = s.outside; locals = around.locals; emitter = whole (length s.outside.captured) params around.nodes s.emitter }
+finished params around s = record { alloc = s.alloc; outside = s.outside; locals = around.locals; emitter = whole (narrowed (length s.outside.captured)) (narrowed params) around.nodes s.emitter }

@@ -3,4 +3,6 @@ pub mod Coders
 pub mod Emitted
 pub mod Heads
 pub mod Refused
-pub mod Seen
+pub mod Outsides
+pub mod Narrowed
+pub mod Sizes

@@ -1,11 +1,11 @@
 //! The state of the pass over a tree that makes its codes.
 
 ghost use Rattle.std.specs.Prelude.{◌≡◌, [], IfOk, OnOk};
-ghost use Rattle.obq_model.specs.Scopes.{outermost, slots_of};
+ghost use Rattle.obq_model.specs.Scopes.{outermost};
 
 use crate::emitter::Emitter;
 use crate::outside::Outside;
-use crate::slots::{counted, find_captured, find_slots};
+use crate::slots::{find_captured, find_slots, narrowed};
 use obq_base::{Code, CodeNo, Name, NoMemory, Node, Slot};
 use obq_names::Binders;
 use sqlite_items::Items;
@@ -31,15 +31,15 @@ pub struct Around {
 
 impl Coder {
     ghost use Rattle.std.specs.Prelude.{length};
-    ghost use Rattle.obq_scope.specs.Coded.{captured, onto, taken};
+    ghost use Rattle.obq_scope.specs.Coded.{captured, emitter_with, past_captures};
     ghost use Rattle.obq_scope.specs.Coders.{after, around_of, begun, entered, finished, left};
-    ghost use Rattle.obq_scope.specs.Emitted.{next_number};
-    ghost use Rattle.obq_scope.specs.Seen.{seen};
+    ghost use Rattle.obq_scope.specs.Narrowed.{found_slots, numbered};
+    ghost use Rattle.obq_scope.specs.Outsides.{outside_of};
 
     /// Nothing is made yet, and no binder is in force. The lists are what the procedures to come
     /// capture.
     pub fn new(alloc: Global, source: u16, captures: Items<Items<Name>>) -> Coder
-        ensures outside { seen result.outside ≡ outermost source }
+        ensures outside { outside_of result.outside ≡ outermost source }
         ensures codes { result.emitter.output.codes ≡ [] }
         ensures nodes { result.emitter.output.nodes ≡ [] }
         ensures ahead { result.emitter.ahead ≡ captures }
@@ -57,15 +57,15 @@ impl Coder {
     }
 
     pub fn push(&mut self, node: Node) -> Result<(), NoMemory>
-        ensures { OnOk result (self.new ≡ after (λ o locals. onto node) self.old) }
+        ensures { OnOk result (self.new ≡ after (λ o locals. emitter_with node) self.old) }
     {
         self.emitter.push(node)
     }
 
     /// What the procedure, method or `let rec` that begins captures.
     pub fn take_captured(&mut self) -> Result<Binders, NoMemory>
-        ensures captured { IfOk result (λ names. names ≡ captured (seen self.old.outside) self.old.locals self.old.emitter) }
-        ensures taken { OnOk result (self.new ≡ after (λ o locals. taken) self.old) }
+        ensures captured { IfOk result (λ names. names ≡ captured (outside_of self.old.outside) self.old.locals self.old.emitter) }
+        ensures taken { OnOk result (self.new ≡ after (λ o locals. past_captures) self.old) }
     {
         let names = self.emitter.ahead.first();
         let captured = find_captured(self.alloc, &self.outside, &self.locals, names)?;
@@ -75,7 +75,7 @@ impl Coder {
 
     /// The slots of these names.
     pub fn slots(&self, names: &Binders) -> Result<Items<Slot>, NoMemory>
-        ensures { IfOk result (λ slots. slots ≡ slots_of (seen self.now.outside) self.now.locals names.now) }
+        ensures { IfOk result (λ slots. slots ≡ found_slots (outside_of self.now.outside) self.now.locals names.now) }
     {
         find_slots(self.alloc, &self.outside, &self.locals, names.as_slice())
     }
@@ -117,18 +117,18 @@ impl Coder {
     /// It is whole, and gets the next number.
     pub fn finish(&mut self, around: Around, parameters: usize) -> Result<CodeNo, NoMemory>
         ensures whole { OnOk result (self.new ≡ finished parameters around self.old) }
-        ensures number { IfOk result (λ number. number ≡ next_number self.old.outside.source self.old.emitter.output) }
+        ensures number { IfOk result (λ number. number ≡ numbered self.old.outside.source self.old.emitter.output) }
     {
         let Around { locals, nodes } = around;
         self.locals = locals;
         let nodes = replace(&mut self.emitter.output.nodes, nodes);
         let number = CodeNo {
             source: self.outside.source,
-            n: counted(self.emitter.output.codes.len())?,
+            n: narrowed(self.emitter.output.codes.len()),
         };
         self.emitter.output.codes.push(Code {
-            params: counted(parameters)?,
-            captures: counted(self.outside.captured.len())?,
+            params: narrowed(parameters),
+            captures: narrowed(self.outside.captured.len()),
             nodes,
         })?;
         Ok(number)

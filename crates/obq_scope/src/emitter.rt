@@ -17,7 +17,7 @@ pub struct Emitter {
 }
 
 impl Emitter {
-    ghost use Rattle.obq_scope.specs.Coded.{onto};
+    ghost use Rattle.obq_scope.specs.Coded.{emitter_with};
 
     pub fn new(alloc: Global, captures: Items<Items<Name>>) -> Emitter
         ensures codes { result.output.codes ≡ [] }
@@ -31,7 +31,7 @@ impl Emitter {
     }
 
     pub fn push(&mut self, node: Node) -> Result<(), NoMemory>
-        ensures { OnOk result (self.new ≡ onto node self.old) }
+        ensures { OnOk result (self.new ≡ emitter_with node self.old) }
     {
         self.output.push(node)
     }

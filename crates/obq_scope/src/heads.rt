@@ -5,7 +5,7 @@ ghost use Rattle.obq_base.specs.View.{expr_tree, item_tree, suffix_tree, suffix_
 ghost use Rattle.obq_model.specs.Draft.{call_node, called_row};
 ghost use Rattle.obq_scope.specs.Coders.{after};
 ghost use Rattle.obq_scope.specs.Heads.{expr_head, item_head, suffix_head, suffix_nodes, with_head};
-ghost use Rattle.obq_scope.specs.Seen.{seen};
+ghost use Rattle.obq_scope.specs.Outsides.{outside_of};
 
 use crate::coder::Coder;
 use crate::counts::{
@@ -20,14 +20,14 @@ pub fn push_item_head(coder: &mut Coder, item: &Item) -> Result<(), NoMemory>
 {
     match item {
         Item::Let { binds, .. } => coder.push(Node::Let {
-            count: binds_in(binds.as_slice())?,
+            count: binds_in(binds.as_slice()),
         }),
         Item::Var { binds, .. } => coder.push(Node::Var {
-            count: binds_in(binds.as_slice())?,
+            count: binds_in(binds.as_slice()),
         }),
         Item::LetRec { .. } | Item::Plain(_) => Ok(()),
         Item::Assign { name, .. } => {
-            let slot = find_slot(&coder.outside, &coder.locals, name)?;
+            let slot = find_slot(&coder.outside, &coder.locals, name);
             coder.push(Node::Assign { slot })
         }
         Item::SetField { name, .. } => {
@@ -39,17 +39,17 @@ pub fn push_item_head(coder: &mut Coder, item: &Item) -> Result<(), NoMemory>
 }
 
 /// The row of the built-in that such a head and suffixes call.
-pub fn find_called(coder: &Coder, head: &Expr, suffixes: &[Suffix]) -> Result<Option<u32>, NoMemory>
-    ensures { IfOk result (λ row. row ≡ called_row (seen coder.now.outside) coder.now.locals (expr_tree head.now) (suffix_trees suffixes.now)) }
+pub fn find_called(coder: &Coder, head: &Expr, suffixes: &[Suffix]) -> Option<u32>
+    ensures { result ≡ called_row (outside_of coder.now.outside) coder.now.locals (expr_tree head.now) (suffix_trees suffixes.now) }
 {
     find_row(&coder.outside, &coder.locals, head, suffixes)
 }
 
 /// How many suffixes have nodes of their own.
-fn suffix_nodes(coder: &Coder, head: &Expr, suffixes: &[Suffix]) -> Result<u32, NoMemory>
-    ensures { IfOk result (λ n. n ≡ suffix_nodes (called_row (seen coder.now.outside) coder.now.locals (expr_tree head.now) (suffix_trees suffixes.now)) (suffix_trees suffixes.now)) }
+fn suffix_nodes(coder: &Coder, head: &Expr, suffixes: &[Suffix]) -> u32
+    ensures { result ≡ suffix_nodes (called_row (outside_of coder.now.outside) coder.now.locals (expr_tree head.now) (suffix_trees suffixes.now)) (suffix_trees suffixes.now) }
 {
-    match find_called(coder, head, suffixes)? {
+    match find_called(coder, head, suffixes) {
         None => suffixes_in(suffixes),
         Some(_) => suffixes_behind(suffixes),
     }
@@ -68,12 +68,12 @@ pub fn push_head(coder: &mut Coder, value: &Expr) -> Result<(), NoMemory>
         Expr::Truth { value, .. } => coder.push(Node::Truth { value: *value }),
         Expr::Okay { .. } => coder.push(Node::Okay),
         Expr::Use { name, .. } => {
-            let slot = find_slot(&coder.outside, &coder.locals, name)?;
+            let slot = find_slot(&coder.outside, &coder.locals, name);
             coder.push(Node::Use { slot })
         }
         Expr::Procedure(_) => Ok(()),
         Expr::Array { items, .. } => coder.push(Node::Array {
-            items: values_in(items.as_slice())?,
+            items: values_in(items.as_slice()),
         }),
         Expr::Object { flags, fields, .. } => {
             let names = names_in(coder.alloc, fields.as_slice())?;
@@ -83,7 +83,7 @@ pub fn push_head(coder: &mut Coder, value: &Expr) -> Result<(), NoMemory>
             })
         }
         Expr::If { arms, last, .. } => coder.push(Node::If {
-            arms: arms_in(arms.as_slice())?,
+            arms: arms_in(arms.as_slice()),
             last: last.is_some(),
         }),
         Expr::Loop { .. } => coder.push(Node::Loop),
@@ -91,7 +91,7 @@ pub fn push_head(coder: &mut Coder, value: &Expr) -> Result<(), NoMemory>
         Expr::For { .. } => coder.push(Node::For),
         Expr::Foreach { .. } => coder.push(Node::Foreach),
         Expr::Try { arms, last, .. } => coder.push(Node::Try {
-            guards: arms_in(arms.as_slice())?,
+            guards: arms_in(arms.as_slice()),
             last: last.is_some(),
         }),
         Expr::Finally { .. } => coder.push(Node::Finally),
@@ -99,14 +99,14 @@ pub fn push_head(coder: &mut Coder, value: &Expr) -> Result<(), NoMemory>
         Expr::Watch { .. } => coder.push(Node::Watch),
         Expr::Redirect { .. } => coder.push(Node::Redirect),
         Expr::Clone { objects, .. } => coder.push(Node::Clone {
-            items: values_in(objects.as_slice())?,
+            items: values_in(objects.as_slice()),
         }),
         Expr::Chain { links, .. } => {
             let operators = operators_in(coder.alloc, links.as_slice())?;
             coder.push(Node::Chain { operators })
         }
         Expr::Suffixed { head, suffixes } => coder.push(Node::Suffixes {
-            count: suffix_nodes(coder, head.get(), suffixes.as_slice())?,
+            count: suffix_nodes(coder, head.get(), suffixes.as_slice()),
         }),
     }
 }
@@ -132,7 +132,7 @@ pub fn push_suffix_head(
 {
     match suffix {
         Suffix::Apply { arguments, .. } => {
-            let args = values_in(arguments.as_slice())?;
+            let args = values_in(arguments.as_slice());
             coder.push(call_node(row, args))
         }
         Suffix::Select { name, .. } => {
@@ -147,7 +147,7 @@ pub fn push_suffix_head(
             let name = name.copy(coder.alloc)?;
             coder.push(Node::Invoke {
                 name,
-                args: values_in(arguments.as_slice())?,
+                args: values_in(arguments.as_slice()),
             })
         }
         Suffix::Index { .. } => coder.push(Node::Index),

@@ -1,11 +1,12 @@
 //! The resolver.
 
-ghost use Rattle.std.specs.Prelude.{◌≡◌, ◌≤◌, [], All, Contains, IfErr, IfOk, MatchOption, filter, not};
+ghost use Rattle.std.specs.Prelude.{◌≡◌, ◌<◌, ◌≤◌, ◌^◌, [], All, Contains, IfErr, IfOk, MatchOption, filter, not};
 ghost use Rattle.obq_base.specs.View.{block_tree};
 ghost use Rattle.obq_model.specs.Occurrences.{IsFirstUnbound, is_predefined, unbound};
 ghost use Rattle.obq_model.specs.Resolved.{Resolves};
 ghost use Rattle.obq_names.specs.Captures.{captures_block};
 ghost use Rattle.obq_scope.specs.Refused.{IfUnbound};
+ghost use Rattle.obq_scope.specs.Sizes.{size_block};
 
 use crate::coder::Coder;
 use crate::emit::emit_body;
@@ -77,6 +78,7 @@ fn make_code(
 ) -> Result<SourceCode, NoMemory>
     requires bound { unbound (block_tree block.now) ≡ [] }
     requires captured { captures ≡ captures_block [] (block_tree block.now) }
+    requires small { size_block (block_tree block.now) < 2 ^ 32 }
     ensures { IfOk result (λ made. Resolves source (block_tree block.now) made) }
 {
     let mut coder = Coder::new(alloc, source, captures);
@@ -91,8 +93,10 @@ fn make_code(
     })
 }
 
-/// The code of a source's block, or its first unbound name by place. Every block may be given.
+/// The code of a source's block, or its first unbound name by place. A block of a source within the
+/// limit is of such a size.
 pub fn resolve(alloc: Global, source: u16, block: &Block) -> Result<SourceCode, ScopeRefused>
+    requires { size_block (block_tree block.now) < 2 ^ 32 }
     ensures code { IfOk result (λ made. Resolves source (block_tree block.now) made) }
     ensures refused { IfErr result (λ why. IfUnbound why (IsFirstUnbound (block_tree block.now))) }
 {

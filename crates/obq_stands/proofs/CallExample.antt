@@ -3,13 +3,12 @@
 use Rattle.std.specs.Prelude.{List, Some, None, [], true, false, ◌∷◌, pos, refl, if◌then◌else◌, ◌<◌, ◌+◌, ◌≡◌}
 use Rattle.std.proofs.Common.{arith}
 use Rattle.obq_base.specs.declared.acts.ActKind.{ActKind}
-use Rattle.obq_base.specs.declared.trees.Flags.{Flags}
 use Rattle.obq_model.specs.Terms.{Object, Held, Within, Select, Invoke, Int, Loc, IsValue, IsMethod, Fields, Bare, Field, Okay, Name, Term, Const, Form, Part, End}
 use Rattle.obq_model.specs.Store.{Cell, ObjectCell}
 use Rattle.obq_model.specs.Step.{no_self, Operation, Get, CallMethod, Leave, Frame, Pending}
 use Rattle.obq_model.specs.Config.{act}
 use Rattle.obq_laws.specs.Determinism.{entry_of}
-use Rattle.obq_stands.specs.World.{Ref, same_ref, Memory, with_left, Slot, Answer, Packet, Request, Reply, World, without, start, post, with_line, pend, with_memory, note}
+use Rattle.obq_stands.specs.World.{Ref, same_ref, Memory, with_left, Slot, Answer, Request, Reply, World, without, start, post, with_line, pend, with_memory, note}
 use Rattle.obq_stands.specs.Stands.{OnCell}
 use Rattle.obq_stands.specs.Events.{first_cell, first_slot, world_at, with_window, moved, answering, OffLine, Asks, Acted, Enters, Returns, Resumes, Run, Begin, Then}
 

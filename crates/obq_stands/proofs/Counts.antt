@@ -243,12 +243,6 @@ none_waits turns w c st b = by (w.waiting b w.threads) refl
 
 -- ---- each event
 
-same_world : (k : Packet → Bool) (w x : World) → x.lines ≡ w.lines → x.waiting ≡ w.waiting → x.threads ≡ w.threads → (c d : ℕ) → open_of k x c d ≡ open_of k w c d
-same_world k w x l wa n c d =
-    ap (λ (f : ℕ → ℕ → List Packet). count_in k (f c d) + held k x.waiting x.threads c d) l
-    ∙ ap (λ (f : Waiting). count_in k (w.lines c d) + held k f x.threads c d) wa
-    ∙ ap (λ m. count_in k (w.lines c d) + held k w.waiting m c d) n
-
 unmoved : (w x : World) (z : Tally) → ((k : Packet → Bool) (c d : ℕ) → open_of k x c d ≡ open_of k w c d) → Counted w z → Counted x z
 unmoved w x z same h = record { requests = λ a b. h.requests a b ∙ ap (λ n. z.done a b + n) (sym (same is_request a b)); replies = λ a b. h.replies a b ∙ ap (λ n. z.taken a b + n) (sym (same is_reply a b)) }
 

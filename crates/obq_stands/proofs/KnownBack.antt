@@ -1,7 +1,7 @@
 -- What is known of terms in the store is known of them over references.
 use Rattle.std.specs.Prelude.{List, [], length, map, refl, suc, ◌∷◌, ◌≡◌, ◌≤◌}
 use Rattle.std.proofs.Common.{subst, ap, sym, ◌∙◌}
-use Rattle.obq_model.specs.Terms.{LocKind, Object, Array, Variable, Writer, Condition, Engine, Value, Int, Truth, Okay, Text, Exc, Thread, Closure, Member, Loc, FieldBody, IsValue, IsMethod, IsAlias, Fields, Bare, Field, Kind, Read, Within, EachAt, EachIn, Cloning, Testing, Lined, Out, Term, Const, Name, Under, Form, Parts, End, Part}
+use Rattle.obq_model.specs.Terms.{LocKind, Object, Array, Variable, Writer, Condition, Engine, Value, Int, Truth, Okay, Text, Exc, Thread, Closure, Member, Loc, FieldBody, IsValue, IsMethod, IsAlias, Fields, Bare, Field, Kind, Read, Within, Counting, EachAt, EachIn, Cloning, Testing, Lined, Out, Term, Const, Name, Under, Form, Parts, End, Part}
 use Rattle.obq_model.specs.Store.{Cell, ObjectCell, ArrayCell, VariableCell, WriterCell, ConditionCell, EngineCell}
 use Rattle.obq_model.specs.Step.{After, Itself, Entered, Offered, Operation, New, Get, CallMethod, Leave, Set, Copy, RedirectTo, GetItem, GetSize, EachSize, EachItem, SetItem, ReadVariable, SetVariable, Write, ForkOff, JoinWith, LineUp, GiveUp, Again, Signal, Broadcast, Export, Import, RunEngine, Frame, Pending, values_before, plug}
 use Rattle.obq_model.specs.Maps.{map_value, map_body, map_fields, map_kind, map_term, map_parts, map_cell, map_after, map_operation}
@@ -28,11 +28,11 @@ mutual
   parts_back f L M T b (Part t ts) h = (known_back f L M T b t h.0, parts_back f L M T b ts h.1)
 
   value_back : {R S : Type 0} (f : R → S) (L : Places S) (M : Places R) (T : Threads) → Back f L M → (v : Value R) → IsKnownValue L T (map_value f v) → IsKnownValue M T v
-  value_back f L M T b (Int z) h = tt
+  value_back f L M T b (Int z) h = h
   value_back f L M T b (Truth z) h = tt
   value_back f L M T b Okay h = tt
-  value_back f L M T b (Text z) h = tt
-  value_back f L M T b (Exc z) h = tt
+  value_back f L M T b (Text z) h = h
+  value_back f L M T b (Exc z) h = h
   value_back f L M T b (Thread n) h = h
   value_back f L M T b (Closure params body) h = (subst (λ n. n ≤ 1000) (map_deepest f body) h.0, known_back f L M T b body h.1)
   value_back f L M T b (Member names group i) h = (h.0, subst (λ n. n ≤ 1000) (map_deepest_of f group) h.1, parts_back f L M T b group h.2)
@@ -41,6 +41,7 @@ mutual
   kind_back : {R S : Type 0} (f : R → S) (L : Places S) (M : Places R) (T : Threads) → Back f L M → (k : Kind R) → IsKnownKind L T (map_kind f k) → IsKnownKind M T k
   kind_back f L M T b (Read l) h = b Variable l h
   kind_back f L M T b (Within o m) h = b Object o h
+  kind_back f L M T b (Counting i n) h = h
   kind_back f L M T b (EachAt r i n) h = b Array r h
   kind_back f L M T b (EachIn r i n) h = b Array r h
   kind_back f L M T b (Cloning flags fields rest) h = (fields_back f L M T b fields h.0, objects_back f L M b rest h.1)
@@ -85,7 +86,7 @@ map_location_kind f (EngineCell v) = refl
 after_back : {R S : Type 0} (f : R → S) (L : Places S) (M : Places R) (T : Threads) → Back f L M → (c : Cell R) (after : After R) → IsKnownAfter L T (map_cell f c) (map_after f after) → IsKnownAfter M T c after
 after_back f L M T b c Itself h = tt
 after_back f L M T b c (Entered scope) h = (sym (map_location_kind f c) ∙ h.0, known_back f L M T b scope h.1)
-after_back f L M T b c (Offered name namer) h = sym (map_location_kind f c) ∙ h
+after_back f L M T b c (Offered name namer) h = (sym (map_location_kind f c) ∙ h.0, h.1, h.2)
 
 pub operation_back : {R S : Type 0} (f : R → S) (L : Places S) (M : Places R) (T : Threads) → Back f L M → (op : Operation R) → IsKnownOperation L T (map_operation f op) → IsKnownOperation M T op
 operation_back f L M T b (New cell after) h = (cell_back f L M T b cell h.0, after_back f L M T b cell after h.1)
@@ -102,7 +103,7 @@ operation_back f L M T b (EachItem a i n scope) h = (b Array a h.0, known_back f
 operation_back f L M T b (SetItem a i v) h = (b Array a h.0, value_back f L M T b v h.1)
 operation_back f L M T b (ReadVariable l) h = b Variable l h
 operation_back f L M T b (SetVariable l v) h = (b Variable l h.0, value_back f L M T b v h.1)
-operation_back f L M T b (Write w x) h = b Writer w h
+operation_back f L M T b (Write w x) h = (b Writer w h.0, h.1)
 operation_back f L M T b (ForkOff v) h = value_back f L M T b v h
 operation_back f L M T b (JoinWith u) h = h
 operation_back f L M T b (LineUp o c guard) h = (b Object o h.0, b Condition c h.1, known_back f L M T b guard h.2)

@@ -3,7 +3,7 @@ use Rattle.std.specs.Prelude.{List, None, Option, Some, [], false, length, max, 
 use Rattle.std.proofs.Common.{inl, inr, subst, ap, sym, ◌∙◌, arith}
 use Rattle.obq_model.specs.Terms.{Term}
 use Rattle.obq_model.specs.Store.{same_loc}
-use Rattle.obq_model.specs.Step.{no_self, Operation, New, Get, CallMethod, Leave, Set, Copy, RedirectTo, GetItem, GetSize, EachSize, EachItem, SetItem, ReadVariable, SetVariable, Write, ForkOff, JoinWith, LineUp, GiveUp, Again, Signal, Broadcast, Export, Import, RunEngine, Frame, Needs, find}
+use Rattle.obq_model.specs.Step.{no_self, Operation, Leave, Copy, EachSize, EachItem, LineUp, GiveUp, Again, Frame, Needs, find}
 use Rattle.obq_model.specs.Config.{Running, ThreadState, Config, cell_at}
 use Rattle.obq_model.specs.Effect.{line_of, in_line}
 use Rattle.obq_model.specs.Maps.{map_cell, map_operation}
@@ -64,58 +64,20 @@ next_in turns w c t op st (InRequest a b k used depth self _ w1 takes) =
 -- ---- owners
 
 map_needs_owner : {R S : Type 0} (f : R → S) (op : Operation R) → needs_owner (map_operation f op) ≡ option_map f (needs_owner op)
-map_needs_owner f (New cell after) = refl
-map_needs_owner f (Get o x) = refl
-map_needs_owner f (CallMethod o x vs) = refl
 map_needs_owner f (Leave o out) = refl
-map_needs_owner f (Set o x body) = refl
-map_needs_owner f (Copy o first copied rest) = refl
-map_needs_owner f (RedirectTo o target) = refl
-map_needs_owner f (GetItem o i) = refl
-map_needs_owner f (GetSize o) = refl
-map_needs_owner f (EachSize o scope) = refl
-map_needs_owner f (EachItem o i n scope) = refl
-map_needs_owner f (SetItem o i v) = refl
-map_needs_owner f (ReadVariable o) = refl
-map_needs_owner f (SetVariable o v) = refl
-map_needs_owner f (Write o text) = refl
-map_needs_owner f (ForkOff v) = refl
-map_needs_owner f (JoinWith u) = refl
 map_needs_owner f (LineUp p o guard) = refl
 map_needs_owner f (GiveUp o c guard) = refl
-map_needs_owner f (Again p c guard) = refl
-map_needs_owner f (Signal o) = refl
-map_needs_owner f (Broadcast o) = refl
-map_needs_owner f (Export x v) = refl
-map_needs_owner f (Import x engine) = refl
-map_needs_owner f (RunEngine o v) = refl
+map_needs_owner f op = refl
 
 wire_needs_owner : (op : Operation Ref) → needs_owner (wire op) ≡ needs_owner op
-wire_needs_owner (New cell after) = refl
-wire_needs_owner (Get o x) = refl
-wire_needs_owner (CallMethod o x vs) = refl
 wire_needs_owner (Leave o out) = refl
-wire_needs_owner (Set o x body) = refl
 wire_needs_owner (Copy o first copied rest) = refl
-wire_needs_owner (RedirectTo o target) = refl
-wire_needs_owner (GetItem o i) = refl
-wire_needs_owner (GetSize o) = refl
 wire_needs_owner (EachSize o scope) = refl
 wire_needs_owner (EachItem o i n scope) = refl
-wire_needs_owner (SetItem o i v) = refl
-wire_needs_owner (ReadVariable o) = refl
-wire_needs_owner (SetVariable o v) = refl
-wire_needs_owner (Write o text) = refl
-wire_needs_owner (ForkOff v) = refl
-wire_needs_owner (JoinWith u) = refl
 wire_needs_owner (LineUp p o guard) = refl
 wire_needs_owner (GiveUp o c guard) = refl
 wire_needs_owner (Again p c guard) = refl
-wire_needs_owner (Signal o) = refl
-wire_needs_owner (Broadcast o) = refl
-wire_needs_owner (Export x v) = refl
-wire_needs_owner (Import x engine) = refl
-wire_needs_owner (RunEngine o v) = refl
+wire_needs_owner op = refl
 
 owner_asked : (op asked : Operation Ref) → ((op ≡ asked) ⊎ (op ≡ wire asked)) → needs_owner asked ≡ needs_owner op
 owner_asked op asked (inl e) = ap needs_owner (sym e)

@@ -57,31 +57,13 @@ one_number (RunEngine o v) op2 r f g e h k = by_cell (RunEngine o v) op2 r f g e
 
 -- a request looks at no other cells than the operation
 looks_wired : (op : Operation Ref) (r : Ref) → LooksAt (wire op) r → LooksAt op r
-looks_wired (New cell after) r k = k
-looks_wired (Get o x) r k = k
-looks_wired (CallMethod o x vs) r k = k
-looks_wired (Leave o out) r k = k
-looks_wired (Set o x body) r k = k
 looks_wired (Copy o first copied rest) r k = k
-looks_wired (RedirectTo o target) r k = k
-looks_wired (GetItem o i) r k = k
-looks_wired (GetSize o) r k = k
 looks_wired (EachSize o scope) r k = k
 looks_wired (EachItem o i n scope) r k = k
-looks_wired (SetItem o i v) r k = k
-looks_wired (ReadVariable o) r k = k
-looks_wired (SetVariable o v) r k = k
-looks_wired (Write o text) r k = k
-looks_wired (ForkOff v) r k = k
-looks_wired (JoinWith u) r k = k
 looks_wired (LineUp p o guard) r k = k
 looks_wired (GiveUp o q guard) r k = k
 looks_wired (Again p q guard) r k = k
-looks_wired (Signal o) r k = k
-looks_wired (Broadcast o) r k = k
-looks_wired (Export x v) r k = k
-looks_wired (Import x engine) r k = k
-looks_wired (RunEngine o v) r k = k
+looks_wired op r k = k
 
 pub present : Present
 present turns w c s t slot op hs st is e r looks =

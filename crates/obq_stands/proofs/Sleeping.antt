@@ -3,7 +3,7 @@ use Rattle.std.specs.Prelude.{List, Option, Some, None, [], ◌∷◌, ◌++◌,
 use Rattle.std.proofs.Common.{ap, sym, ◌∙◌}
 use Rattle.obq_model.specs.Terms.{Lined, Out, Term, Form, Part, End}
 use Rattle.obq_model.specs.Store.{same_loc}
-use Rattle.obq_model.specs.Step.{no_self, Operation, New, Get, CallMethod, Leave, Set, Copy, RedirectTo, GetItem, GetSize, EachSize, EachItem, SetItem, ReadVariable, SetVariable, Write, ForkOff, JoinWith, LineUp, GiveUp, Again, Signal, Broadcast, Export, Import, RunEngine, Frame, plug, Found, Needs, find}
+use Rattle.obq_model.specs.Step.{no_self, Operation, GiveUp, Again, Frame, plug, Found, Needs, find}
 use Rattle.obq_model.specs.Config.{Running, Returned, Failed, ThreadState, Config}
 use Rattle.obq_model.specs.Maps.{map_operation}
 use Rattle.obq_model.specs.Frames.{lifted, lifted_all}
@@ -14,36 +14,13 @@ use Rattle.obq_stands.specs.Watch.{sleep_of, Sleeps, Asleep}
 use Rattle.obq_stands.proofs.Update.{test_refl}
 use Rattle.obq_stands.proofs.Refs.{ref_same}
 use Rattle.obq_model.proofs.Found.{needs_frames}
-use Rattle.obq_stands.proofs.Memory.{reading, reading_agrees}
 use Rattle.obq_stands.proofs.Moves.{out_running}
 use Rattle.obq_stands.proofs.Events.{found_op}
 
 pub map_sleep : {R S : Type 0} (f : R → S) (op : Operation R) → sleep_of (map_operation f op) ≡ option_map (λ p. (f p.0, f p.1)) (sleep_of op)
-map_sleep f (New cell after) = refl
-map_sleep f (Get o x) = refl
-map_sleep f (CallMethod o x vs) = refl
-map_sleep f (Leave o out) = refl
-map_sleep f (Set o x body) = refl
-map_sleep f (Copy o first copied rest) = refl
-map_sleep f (RedirectTo o target) = refl
-map_sleep f (GetItem o i) = refl
-map_sleep f (GetSize o) = refl
-map_sleep f (EachSize o scope) = refl
-map_sleep f (EachItem o i n scope) = refl
-map_sleep f (SetItem o i v) = refl
-map_sleep f (ReadVariable o) = refl
-map_sleep f (SetVariable o v) = refl
-map_sleep f (Write o text) = refl
-map_sleep f (ForkOff v) = refl
-map_sleep f (JoinWith u) = refl
-map_sleep f (LineUp p o guard) = refl
 map_sleep f (GiveUp o q guard) = refl
 map_sleep f (Again p q guard) = refl
-map_sleep f (Signal o) = refl
-map_sleep f (Broadcast o) = refl
-map_sleep f (Export x v) = refl
-map_sleep f (Import x engine) = refl
-map_sleep f (RunEngine o v) = refl
+map_sleep f op = refl
 
 abbrev term_in : Term ℕ → Option ThreadState → Term ℕ
 term_in d None = d
@@ -63,9 +40,6 @@ Pair = ℕ × ℕ
 
 pair_one : (p r : Pair) → Some p ≡ Some r → (p.0 ≡ r.0) × (p.1 ≡ r.1)
 pair_one p r e = (some_one p.0 r.0 (ap (option_map (λ (x : Pair). x.0)) e), some_one p.1 r.1 (ap (option_map (λ (x : Pair). x.1)) e))
-
-none_pair : (x : Option (ℕ × ℕ)) (p : ℕ × ℕ) → x ≡ None → x ≡ Some p → ⊥
-none_pair x p e f = cc (e, f)
 
 -- a thread is in one phase
 pub one_phase : (state : Option ThreadState) (o q o2 q2 : ℕ) → Sleeps state o q → Sleeps state o2 q2 → (o ≡ o2) × (q ≡ q2)
@@ -97,20 +71,6 @@ phase_of turns w c s t slot op hs o q st is e sleeps =
       found = k.found;
       is = ap sleep_of (k.one f g).0 ∙ map_sleep f op ∙ ap (option_map (λ (p : Ref × Ref). (f p.0, f p.1))) sleeps;
     }
-
--- a thread at another operation isn't asleep
-pub awake : (turns : ℕ) (w : World) (c : Config) (s t : ℕ) (slot : Slot) (op : Operation Ref) (hs : List (Frame Ref)) (o q : ℕ) → Stands turns w c → w.running s t ≡ Some slot
-    → find same_ref slot.segment.depth slot.segment.self slot.segment.window ≡ Needs op hs → sleep_of op ≡ None → Sleeps (slice_get c.threads t) o q → ⊥
-awake turns w c s t slot op hs o q st is e none sl =
-    let goes = (out_running turns w c s t slot st is).1 in
-    let k = found_op w.memory c st.memory w.pending t goes.term slot.segment.window slot.segment.depth slot.segment.self slot.segment.answers goes.reads.links goes.reads.chained goes.reads.same op hs e in
-    let f : Ref → ℕ = reading w.memory 0 in
-    let g : Agrees f w.memory.heap = reading_agrees w.memory c.store st.memory 0 in
-    let terms : sl.term ≡ goes.term = running_one (slice_get c.threads t) sl.term goes.term sl.used slot.used sl.here goes.here in
-    let ops : sl.op ≡ k.op2 = needs_one (find same_loc 0 no_self sl.term) sl.op k.op2 sl.frames k.gs sl.found (ap (find same_loc 0 no_self) terms ∙ k.found) in
-    let gone : sleep_of k.op2 ≡ None = ap sleep_of (k.one f g).0 ∙ map_sleep f op ∙ ap (option_map (λ (p : Ref × Ref). (f p.0, f p.1))) none in
-    let there : sleep_of k.op2 ≡ Some (o, q) = ap sleep_of (sym ops) ∙ sl.is in
-    none_pair (sleep_of k.op2) (o, q) gone there
 
 lifted_asks : (gs : List (Frame ℕ)) (op : Operation ℕ) (fs : List (Frame ℕ)) → lifted_all gs (Needs op fs) ≡ Needs op (gs ++ fs)
 lifted_asks [] op fs = refl

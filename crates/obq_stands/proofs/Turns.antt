@@ -1,5 +1,5 @@
 -- Entries at the end of a journal: pure steps, an act, an ending, a thread more.
-use Rattle.std.specs.Prelude.{Bool, List, Option, Some, None, [], ◌∷◌, ◌++◌, ℕ, true, false, length, nat_lt, slice_get, slice_set, slice_index_or, refl, ◌+◌, ◌<◌, ◌≤◌, ◌≡◌, if◌then◌else◌}
+use Rattle.std.specs.Prelude.{Bool, List, Option, Some, None, [], ◌∷◌, ◌++◌, ℕ, false, length, nat_lt, slice_get, slice_set, slice_index_or, refl, ◌+◌, ◌<◌, ◌≤◌, ◌≡◌, if◌then◌else◌}
 use Rattle.std.proofs.Common.{ap, sym, ◌∙◌, arith}
 use Rattle.std.proofs.lemmas.Option.{get_or_from_slice_get}
 use Rattle.std.proofs.lemmas.Bool.Decides.{nat_tests}
@@ -11,10 +11,10 @@ use Rattle.obq_model.specs.Store.{Store, same_loc}
 use Rattle.obq_model.specs.Step.{Operation, Frame, Needs, Done, Uncaught, no_self, plug, find, self_at}
 use Rattle.obq_model.specs.Config.{Execution, Running, Returned, ThreadState, Config, act, with_execution}
 use Rattle.obq_model.specs.Effect.{Acting, Forking, Does, perform, after_outcome, effect_of, effect_of_state, effect, end_by}
-use Rattle.obq_model.specs.Replay.{after_pure, kind_same, act_same, spend, with_turns, exactly, then_act, take_of, take_state, take_entry, replay_from}
+use Rattle.obq_model.specs.Replay.{after_pure, spend, with_turns, exactly, then_act, take_of, take_state, take_entry, replay_from}
 use Rattle.obq_laws.specs.Determinism.{entry_of}
 use Rattle.obq_laws.proofs.Determinism.{cut_entry}
-use Rattle.obq_stands.proofs.Update.{test_refl}
+use Rattle.obq_laws.proofs.Turns.{act_refl, one_left}
 use Rattle.obq_model.proofs.Slices.{get_below, set_same, set_set, set_own, set_length, push_other, push_set}
 
 abbrev pub state_of : Execution → ℕ → ThreadState
@@ -43,35 +43,6 @@ steps_entry turns c t n used u v here few e =
     ∙ ap (take_of c (entry_of t n None)) e
     ∙ ap Some (turned c t n (state_of (Running u) used) (Running v) here)
 
-kind_refl : (k : ActKind) → kind_same k k ≡ true
-kind_refl ActKind.New = refl
-kind_refl ActKind.Get = refl
-kind_refl ActKind.Call = refl
-kind_refl ActKind.Leave = refl
-kind_refl ActKind.Hop = refl
-kind_refl ActKind.Set = refl
-kind_refl ActKind.Copy = refl
-kind_refl ActKind.Redirect = refl
-kind_refl ActKind.ArrayGet = refl
-kind_refl ActKind.ArraySet = refl
-kind_refl ActKind.VarGet = refl
-kind_refl ActKind.VarSet = refl
-kind_refl ActKind.Put = refl
-kind_refl ActKind.Fork = refl
-kind_refl ActKind.Join = refl
-kind_refl ActKind.Line = refl
-kind_refl ActKind.GiveUp = refl
-kind_refl ActKind.Again = refl
-kind_refl ActKind.Signal = refl
-kind_refl ActKind.Broadcast = refl
-kind_refl ActKind.Export = refl
-kind_refl ActKind.Import = refl
-kind_refl ActKind.Engine = refl
-kind_refl ActKind.End = refl
-
-act_refl : (kind : ActKind) (loc : ℕ) → act_same (act kind loc) (act kind loc) ≡ true
-act_refl kind loc = rw (kind_refl kind, test_refl loc) refl
-
 nothing_more : (used : ℕ) → used + 0 ≡ used
 nothing_more used = omega arith
 
@@ -81,9 +52,6 @@ stays c t used u here =
     turned c t 0 (state_of (Running u) used) (Running u) here
     ∙ ap (λ n. changed c t (Running u) n c.store) (nothing_more used)
     ∙ ap (λ (l : List ThreadState). record c { threads = l }) (set_own c.threads t (state_of (Running u) used) here)
-
-one_left : (turns used : ℕ) → used < turns → nat_lt turns (used + 0 + 1) ≡ false
-one_left turns used l = grind (arith, nat_tests)
 
 act_entry : (turns : ℕ) (c c2 : Config) (t used : ℕ) (u : Term ℕ) (kind : ActKind) (loc : ℕ) → slice_get c.threads t ≡ Some (state_of (Running u) used) → used < turns
     → effect c t ≡ Does (act kind loc) c2 → take_entry turns c (entry_of t 0 (Some (act kind loc))) ≡ Some (with_turns t 1 c2)

@@ -27,6 +27,7 @@ impl<W> Threads<W> {
         ensures running { (t : ℕ) → running_at result t ≡ None }
         ensures pending { (call : ℕ) → pending_at result call ≡ None }
         ensures ended { (t : ℕ) → ended_at result t ≡ None }
+        ensures site { result.site ≡ site }
     {
         Threads {
             site,
@@ -63,6 +64,7 @@ impl<W> Threads<W> {
         ensures running { Sets (running_at self.old) (running_at self.new) thread.0 None }
         ensures pending { Same (pending_at self.old) (pending_at self.new) }
         ensures ended { Same (ended_at self.old) (ended_at self.new) }
+        ensures site { self.new.site ≡ self.old.site }
     {
         take(&mut self.running, thread.0 as usize)
     }
@@ -85,6 +87,7 @@ impl<W: Drop> Threads<W> {
         ensures err { OnErr result (Same (running_at self.old) (running_at self.new)) }
         ensures pending { Same (pending_at self.old) (pending_at self.new) }
         ensures ended { Same (ended_at self.old) (ended_at self.new) }
+        ensures site { self.new.site ≡ self.old.site }
     {
         let place = thread.0 as usize;
         make_room(&mut self.running, place)?;
@@ -98,6 +101,7 @@ impl<W: Drop> Threads<W> {
         ensures err { OnErr result (Same (ended_at self.old) (ended_at self.new)) }
         ensures running { Same (running_at self.old) (running_at self.new) }
         ensures pending { Same (pending_at self.old) (pending_at self.new) }
+        ensures site { self.new.site ≡ self.old.site }
     {
         let place = thread.0 as usize;
         make_room(&mut self.ended, place)?;
@@ -112,6 +116,7 @@ impl<W: Drop> Threads<W> {
         ensures running { (s : Segment W) → running_at self.old thread.0 ≡ Some s → Sets (running_at self.old) (running_at self.new) thread.0 (Some (record { window = window; answers = s.answers })) }
         ensures pending { Same (pending_at self.old) (pending_at self.new) }
         ensures ended { Same (ended_at self.old) (ended_at self.new) }
+        ensures site { self.new.site ≡ self.old.site }
     {
         let place = thread.0 as usize;
         match take(&mut self.running, place) {
@@ -137,6 +142,7 @@ impl<W: Drop> Threads<W> {
         ensures err_running { OnErr result (Same (running_at self.old) (running_at self.new)) }
         ensures err_pending { OnErr result (Same (pending_at self.old) (pending_at self.new)) }
         ensures ended { Same (ended_at self.old) (ended_at self.new) }
+        ensures site { self.new.site ≡ self.old.site }
     {
         self.pending.reserve(1)?;
         match take(&mut self.running, thread.0 as usize) {
@@ -156,6 +162,7 @@ impl<W: Drop> Threads<W> {
         ensures pending { Sets (pending_at self.old) (pending_at self.new) call None }
         ensures none { IfNone result (Same (running_at self.old) (running_at self.new)) }
         ensures ended { Same (ended_at self.old) (ended_at self.new) }
+        ensures site { self.new.site ≡ self.old.site }
     {
         match self.pending.try_remove(call as usize) {
             Some(Suspended { thread, segment }) => {

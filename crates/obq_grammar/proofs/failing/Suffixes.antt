@@ -1,7 +1,7 @@
 -- Chains of suffixes. `C_at_i`: where the part i of the production C fails, what the production derives fails; the arguments are the parts before it
 -- (a word or a name by the tokens that begin with it, another part by its derivation and by the token behind it), and then how part i fails.
 -- `C_end`: behind the last part stands what may not stand behind the production. `C_of`: the production from its parts. `C_step`: one more of a list so far.
-use Rattle.std.proofs.Common.{◌≡◌, ℕ, List, [], ◌∷◌, ◌++◌, refl, sym, subst, ap, ◌∙◌}
+use Rattle.std.proofs.Common.{◌≡◌, ℕ, List, [], ◌∷◌, ◌++◌, refl, sym, subst}
 use Rattle.obq_base.specs.declared.tokens.Token.{Token}
 use Rattle.obq_base.specs.declared.tokens.TokenKind.{TokenKind}
 use Rattle.obq_base.specs.declared.tokens.TokenKind.TheVariants as k
@@ -177,6 +177,3 @@ chain_at_1 f = chain_fails (first (anything some_suffixes) f)
 
 pub chain_at_2 : {h : Expr} {x x1 z : List Token} → IsPrim h x x1 → Fails IsSuffixes EndsSuffixed x1 z → Fails IsChain EndsSuffixed x z
 chain_at_2 p1 f = chain_fails (second good_prim (anything some_suffixes) p1 tt f)
-
-same_pair : {A B : Type 0} (c d : A × B) → c.0 ≡ d.0 → c.1 ≡ d.1 → c ≡ d
-same_pair {A = A} {B = B} c d e f = ap (λ (a : A). (a, c.1)) e ∙ ap (λ (b : B). (d.0, b)) f

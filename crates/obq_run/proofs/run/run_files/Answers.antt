@@ -8,7 +8,7 @@ use Rattle.obq_run.specs.Held.{AreHeld}
 use Rattle.obq_run.specs.Runs.{IsNotYetOf}
 use Rattle.obq_words.specs.Words.{paths_of}
 use Rattle.obq_run.proofs.Held.{as_many, one_source}
-use Rattle.obq_run.proofs.Unruns.{never_not_yet, one_within, refused_before, unrun_not_yet}
+use Rattle.obq_run.proofs.RunRefusals.{never_not_yet, one_within, refused_before, unrun_not_yet}
 use Rattle.obq_run.proofs.run.run_files.Goals as goal
 
 pub returns-in-Err-clause-only : goal.returns-in-Err-clause-only

@@ -4,7 +4,7 @@ use Rattle.obq_lex.specs.Lexes.{Lexes}
 use Rattle.obq_lex.specs.declared.lexer.LexRefused.TheVariants.{Fault}
 use Rattle.obq_model.specs.PutTexts.{IsPutTexts}
 use Rattle.obq_run.proofs.PutHistory.{end_of}
-use Rattle.obq_run.proofs.Unruns.{never_faulty}
+use Rattle.obq_run.proofs.RunRefusals.{never_faulty}
 use Rattle.obq_run.proofs.run.run_source.Goals as goal
 
 pub unreachable-requires : goal.unreachable-requires

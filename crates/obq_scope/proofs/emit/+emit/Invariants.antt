@@ -3,7 +3,7 @@ use Rattle.obq_base.specs.View.{arm_trees, bind_trees, expr_trees, field_trees, 
 use Rattle.obq_model.specs.Occurrences.{bind_names, block_names}
 use Rattle.obq_scope.specs.Coded.{coded_arms, coded_binds, coded_exprs, coded_fields, coded_items, coded_links, coded_members, coded_numbers, coded_suffixes}
 use Rattle.obq_scope.specs.Coders.{after, under}
-use Rattle.obq_scope.specs.Seen.{seen}
+use Rattle.obq_scope.specs.Outsides.{outside_of}
 use Rattle.obq_scope.proofs.emit.+emit.Given as goal
 
 abbrev pub invariant-emit_exprs-loop-value : goal.invariant-emit_exprs-loop-value
@@ -32,6 +32,6 @@ invariant-emit_members-loop-bind l = record {
   alloc : l.coder.alloc ≡ l.fn.coder.alloc;
   outside : l.coder.outside ≡ l.fn.coder.outside;
   locals : l.coder.locals ≡ l.fn.coder.locals;
-  made : coded_members (seen l.fn.coder.outside) (rec_bind_trees (drop l.bind-index l.binds)) l.coder.emitter ≡ coded_members (seen l.fn.coder.outside) (rec_bind_trees l.binds) l.fn.coder.emitter;
-  told : l.numbers ++ coded_numbers (seen l.fn.coder.outside) (rec_bind_trees (drop l.bind-index l.binds)) l.coder.emitter ≡ coded_numbers (seen l.fn.coder.outside) (rec_bind_trees l.binds) l.fn.coder.emitter;
+  made : coded_members (outside_of l.fn.coder.outside) (rec_bind_trees (drop l.bind-index l.binds)) l.coder.emitter ≡ coded_members (outside_of l.fn.coder.outside) (rec_bind_trees l.binds) l.fn.coder.emitter;
+  told : l.numbers ++ coded_numbers (outside_of l.fn.coder.outside) (rec_bind_trees (drop l.bind-index l.binds)) l.coder.emitter ≡ coded_numbers (outside_of l.fn.coder.outside) (rec_bind_trees l.binds) l.fn.coder.emitter;
 }

@@ -1,7 +1,7 @@
 use Rattle.std.proofs.Common.{◌≡◌, ◌++◌, drop}
-use Rattle.obq_model.specs.Scopes.{slots_of}
-use Rattle.obq_scope.specs.Seen.{seen}
+use Rattle.obq_scope.specs.Narrowed.{found_slots}
+use Rattle.obq_scope.specs.Outsides.{outside_of}
 use Rattle.obq_scope.proofs.slots.find_slots.Given as goal
 
 abbrev pub invariant-loop-name : goal.invariant-loop-name
-invariant-loop-name l = l.slots ++ slots_of (seen l.outside) l.locals (drop l.name-index l.names) ≡ slots_of (seen l.outside) l.locals l.names
+invariant-loop-name l = l.slots ++ found_slots (outside_of l.outside) l.locals (drop l.name-index l.names) ≡ found_slots (outside_of l.outside) l.locals l.names

@@ -9,9 +9,9 @@ use Rattle.obq_model.specs.Sources.{AreAccepted, IsAccepted}
 use Rattle.obq_model.specs.Tokens.{IsFirstFault}
 use Rattle.obq_run.specs.declared.ends.Cause.{Cause}
 use Rattle.obq_run.specs.declared.ends.Cause.TheVariants as cause
-use Rattle.obq_run.specs.declared.run.Unrun.{Unrun}
-use Rattle.obq_run.specs.declared.run.Unrun.TheVariants.{NoMemory, NotYet}
-use Rattle.obq_run.specs.Ends.{IfNotYet, IfUnrun, OnWriteFault, IsCheckRefusal, IsRunRefusal, unrun_cause}
+use Rattle.obq_run.specs.declared.run.RunRefused.{RunRefused}
+use Rattle.obq_run.specs.declared.run.RunRefused.TheVariants.{NoMemory, NotYet}
+use Rattle.obq_run.specs.Ends.{IfNotYet, IfRunRefused, OnWriteFault, IsCheckRefusal, IsRunRefusal, run_refusal_cause}
 use Rattle.obq_run.specs.Held.{AreHeld}
 use Rattle.obq_run.specs.Runs.{IsNotYetOf, StopsRun}
 
@@ -54,8 +54,8 @@ pub one_within : (holds : List ℕ → Option (List ℕ)) (paths : List (List �
 one_within holds [] source held = absurd held
 one_within holds (p ∷ ps) source held = held.1
 
-pub unrun_not_yet : (holds : List ℕ → Option (List ℕ)) (limit : ℕ) (paths : List (List ℕ)) (source : List ℕ) (trees : List Block) (why : Unrun) → AreHeld holds limit paths (source ∷ [])
-    → AreAccepted (source ∷ []) trees → IfUnrun why (StopsRun (source ∷ []) 0) → IfNotYet (unrun_cause why) (IsNotYetOf holds limit paths)
+pub unrun_not_yet : (holds : List ℕ → Option (List ℕ)) (limit : ℕ) (paths : List (List ℕ)) (source : List ℕ) (trees : List Block) (why : RunRefused) → AreHeld holds limit paths (source ∷ [])
+    → AreAccepted (source ∷ []) trees → IfRunRefused why (StopsRun (source ∷ []) 0) → IfNotYet (run_refusal_cause why) (IsNotYetOf holds limit paths)
 unrun_not_yet holds limit paths source trees (NotYet k) held accepted h = record { sources = source ∷ []; held = held; trees = trees; accepted = accepted; stops = h }
 unrun_not_yet holds limit paths source trees NoMemory held accepted h = tt
 

@@ -2,5 +2,5 @@
 use Rattle.obq_model.specs.Scopes as model
 use Rattle.obq_scope.specs.declared.outside.Outside.{Outside}
 
-abbrev pub seen : Outside → model.Outside
-seen o = record { source = o.source; members = o.members; captured = o.captured }
+abbrev pub outside_of : Outside → model.Outside
+outside_of o = record { source = o.source; members = o.members; captured = o.captured }

@@ -1,0 +1,6 @@
+mod Cuts
+mod Entries
+mod TooMany
+mod Numbers
+mod Parts
+mod ReadBack

@@ -1,0 +1,45 @@
+-- Decimal numbers that are read.
+use Rattle.std.proofs.Common.{arith, get_or, Bool, Err, List, None, Ok, Result, Some, [], false, length, refl, rules, true, nat_le, subst, ℕ, ◌&&◌, ◌<◌, ◌==◌, ◌^◌, ◌∷◌, ◌≡◌, ◌≤◌}
+use Rattle.std.specs.Char.{is_ascii_digit}
+use Rattle.std.specs.List.{list_all}
+use Rattle.std.specs.Str.Parse.{ParsesUnsigned, digits_value}
+use Rattle.std.specs.Result.{OkIff}
+use Rattle.std.proofs.lemmas.Str.Parse.{IsNumeralModel, numerals_by_value, parse_digits}
+use Rattle.std.proofs.lemmas.Bool.{false_from_ne_true}
+use Rattle.std.specs.Str.{IsUtf8}
+use Rattle.std.proofs.lemmas.Fmt.{IsAscii-from_digits}
+use Rattle.std.proofs.lemmas.Str.{IsUtf8-from_ascii}
+use Rattle.obq_model.specs.JournalText.{is_number, number_from}
+
+-- its digits
+abbrev pub AreDigits : List ℕ → Type 0
+AreDigits w = list_all is_ascii_digit w ≡ true
+
+pub numerals : IsNumeralModel AreDigits (digits_value 10)
+numerals = numerals_by_value AreDigits (search rules)
+
+pub number_digits : (w : List ℕ) → is_number w ≡ true → AreDigits w
+number_digits [] h = refl
+number_digits (d ∷ []) h = search rules
+number_digits (d ∷ e ∷ ds) h = search rules
+
+pub number_length : (w : List ℕ) → is_number w ≡ true → 0 < length w
+number_length [] h = search rules
+number_length (d ∷ ds) h = omega arith
+
+-- two digits and more: what is read behind the first
+pub longer_number : (w : List ℕ) → 2 ≤ length w → (get_or w 0 0 == 48) ≡ false → is_number w ≡ list_all is_ascii_digit w
+longer_number [] l n = search rules
+longer_number (d ∷ []) l n = search rules
+longer_number (d ∷ e ∷ ds) l n = search rules
+
+-- where no number of 64 bits is read there is none
+pub unread : {E : Type 0} (least most : ℕ) (w digits : List ℕ) (x : E) → most < 2 ^ 64 → is_number w ≡ true → digits ≡ w → ParsesUnsigned 64 10 digits (Err x) → None ≡ number_from least most w
+unread least most w digits x small is same h =
+    let no : ¬ (digits_value 10 w < 2 ^ 64) = λ l. parse_digits numerals 64 w (Err x) (subst (λ d. ParsesUnsigned 64 10 d (Err x)) same h) (number_digits w is) (number_length w is, l) in
+    let large : nat_le (digits_value 10 w) most ≡ false = false_from_ne_true _ (λ l. no (search (rules, arith, l, small))) in
+    search (rules, is, large)
+
+-- a number is text
+pub number_utf8 : (w : List ℕ) → is_number w ≡ true → IsUtf8 w
+number_utf8 w is = IsUtf8-from_ascii w (IsAscii-from_digits w (numerals.to w (number_digits w is)))
