@@ -114,8 +114,7 @@ proc_begins {R} eq T a s thread count (number ∷ numbers) p (AProc params b pla
   at false e =
       to_here eq T a s fs _ (TreeValue (ClosureValue thread count (number ∷ []) 0 (captured_values T p (captured_by (outside_at T p) (names_at p) (AProc params b place)))))
       (ap (λ (d : Bool). Next (if d then closure_limit else Const (Closure params (read (hide params (env_at T p)) (open_block (writer_at T p) (inside (outside_at T p) [] (captured_by (outside_at T p) (names_at p) (AProc params b place))) params b))))) e
-      ∙ ap (λ (u : Term R). Next (Const (Closure params u))) (closing_agrees T p [] (free_procedure [] (AProc params b place)) params (open_block (writer_at T p) (inside (outside_at T p) [] (captured_by (outside_at T p) (names_at p) (AProc params b place))) params b) (only_block (writer_at T p) (inside (outside_at T p) [] (captured_by (outside_at T p) (names_at p) (AProc params b place))) params b))
-      ∙ sym (ap (λ (o : Option Proc). Next (Const (closure_of T (read_values T (captured_values T p (captured_by (outside_at T p) (names_at p) (AProc params b place)))) o))) h))
+      ∙ sym (ap (λ (m : Value R). Next (Const m)) (made_read T number numbers p params b place h)))
 
 -- ---- a group
 
