@@ -2,31 +2,31 @@
 use Rattle.std.specs.Prelude.{Bool, List, None, Option, Some, [], codes, false, if◌then◌else◌, nat_lt, refl, slice_get, suc, true, ℕ, ◌∷◌, ◌≡◌}
 use Rattle.obq_base.specs.declared.code.Node.TheVariants as n
 use Rattle.std.proofs.Common.{inl, inr, subst, sym}
-use Rattle.obq_base.specs.Tree.{ABlock, ALink, AProc, ASuffix, AnArm, AnExpr, ApplySuffix, ArmTrees, ArrayTree, BlockTree, ChainTree, CloneTree, ExitTree, ExprTree, FinallyTree, ForTree, ForeachTree, IfTree, IndexSuffix, IntTree, InvokeSuffix, LinkTrees, LoopTree, MaybeBlock, NameTree, NoArms, NoBlock, NoExprs, NoLinks, NoSuffixes, ObjectTree, OkTree, ProcTree, RaiseTree, RedirectTree, SelectSuffix, SuffixTrees, SuffixedTree, TextTree, TruthTree, TryTree, WatchTree}
+use Rattle.obq_base.specs.Tree.{ABlock, ALink, AProc, ASuffix, AnArm, AnExpr, ApplySuffix, ArmTrees, ArrayTree, BlockTree, ChainTree, CloneTree, ExitTree, ExprTree, FinallyTree, ForTree, ForeachTree, IfTree, IndexSuffix, IntTree, InvokeSuffix, LinkTrees, LoopTree, MaybeBlock, MethodOf, NameTree, NoArms, NoBlock, NoExprs, NoLinks, NoSuffixes, ObjectTree, OkTree, ProcTree, RaiseTree, RedirectTree, SelectSuffix, SuffixTrees, SuffixedTree, TextTree, TruthTree, TryTree, WatchTree}
 use Rattle.obq_base.specs.declared.code.CodeNo.{CodeNo}
 use Rattle.obq_base.specs.declared.code.Node.{Node}
 use Rattle.obq_base.specs.declared.limits.TheConstants.{CLOSURE_LIMIT}
 use Rattle.obq_model.specs.CodeLaws.{nodes_of}
 use Rattle.obq_model.specs.Depth.{is_too_deep}
-use Rattle.obq_model.specs.Draft.{Both, Plain, behind_first, called_row, captured_by, count_arms, count_exprs, count_suffixes, draft_arms, draft_expr, draft_maybe, draft_suffixes, field_names, has_block, operators_of}
+use Rattle.obq_model.specs.Draft.{Both, Plain, behind_first, called_row, captured_by, count_arms, count_exprs, count_suffixes, draft_arms, draft_expr, draft_field, draft_maybe, draft_suffixes, field_names, has_block, operators_of}
 use Rattle.obq_model.specs.Occurrences.{free_procedure}
 use Rattle.obq_model.specs.Opened.{open_block}
 use Rattle.obq_model.specs.Procedures.{Proc}
 use Rattle.obq_model.specs.Reading.{hide, read}
 use Rattle.obq_model.specs.Scopes.{Outside, inside, slot_of, slots_of}
 use Rattle.obq_model.specs.Step.{SetItem}
-use Rattle.obq_model.specs.Terms.{Array, Assign, Builtin, Bytes, Clone, Exit, ExitUp, Finally, For, Foreach, Int, Let, LetRec, Loop, Object, Okay, Raise, Redirect, Truth, Try, Var, Watch}
+use Rattle.obq_model.specs.Terms.{Array, Assign, Builtin, Bytes, Clone, Condition, Engine, Exit, ExitUp, Finally, For, Foreach, Int, Let, LetRec, Loop, Object, Okay, Raise, Redirect, Truth, Try, Var, Variable, Watch, Writer}
 use Rattle.obq_model.proofs.Among.{true_false}
 use Rattle.obq_model.proofs.Drafted.{drafted_block, drafted_expr, drafted_suffix}
 use Rattle.obq_model.proofs.Finds.{row_called}
 use Rattle.obq_model.proofs.Occurring.{captured_covered}
 use Rattle.obq_windows.specs.Agrees.{Agrees, FramesAre, IsBound, Same, StandsAt, place_at}
 use Rattle.obq_windows.specs.Complete.{PlaceLaw}
-use Rattle.obq_windows.specs.Moves.{HintExpr, begin_args, begin_expr, begin_if, begin_proc, begin_suffixes, captured_values, going_on, with_suffixes}
+use Rattle.obq_windows.specs.Moves.{HintExpr, begin_args, begin_expr, begin_if, begin_proc, begin_suffixes, captured_values, going_on, method_tree, set_method_tree, tree_closed, with_suffixes}
 use Rattle.obq_windows.specs.Places.{Bound, Place, bound_names, env_at, outside_at, writer_at}
-use Rattle.obq_windows.specs.Trees.{BlockTask, ExprTask, PendingChain, PendingFirst, PendingForeach, PendingHead, PendingIf, PendingLast, PendingLoop, PendingRaise, PendingTry, PendingWatch, Silent, Stepped, Tag, ToArray, ToBuiltin, ToClone, ToRedirect, TreeFrame, TreeMoved, TreeRaising, TreeRun, TreeValue, push, tree_made, tree_moved, tree_raises}
-use Rattle.obq_windows.specs.Values.{ClosureValue, IntValue, OkayValue, PlainValues, Table, TextValue, TruthValue, depth_of_values}
-use Rattle.obq_windows.specs.Windows.{Activation, NodeChain, NodeFirst, NodeForeach, NodeFrame, NodeHead, NodeIf, NodeLast, NodeLoop, NodeMoved, NodeRaise, NodeRaising, NodeRun, NodeTry, NodeValue, NodeWatch, Store, arms_node, begin_node, item_node, node_at, node_made, node_moved, node_raises, suffixes_node, with_item, with_operator, with_suffix}
+use Rattle.obq_windows.specs.Trees.{Asks, BlockTask, ExprTask, PendingChain, PendingFirst, PendingForeach, PendingHead, PendingIf, PendingLast, PendingLoop, PendingRaise, PendingTry, PendingWatch, PlainSetMethod, Silent, Stepped, Tag, ToArray, ToBuiltin, ToClone, ToRedirect, TreeAct, TreeFrame, TreeHere, TreeMoved, TreeRaising, TreeRun, TreeValue, push, tree_made, tree_moved, tree_raises}
+use Rattle.obq_windows.specs.Values.{ClosureValue, ExceptionValue, IntValue, LocationValue, OkayValue, PlainValue, PlainValues, Table, TextValue, ThreadValue, TruthValue, depth_of_values}
+use Rattle.obq_windows.specs.Windows.{Activation, NodeAct, NodeChain, NodeFirst, NodeForeach, NodeFrame, NodeHead, NodeHere, NodeIf, NodeLast, NodeLoop, NodeMoved, NodeRaise, NodeRaising, NodeRun, NodeTry, NodeValue, NodeWatch, Store, arms_node, begin_node, item_node, method_node, node_at, node_closed, node_made, node_moved, node_raises, set_method_node, suffixes_node, with_item, with_operator, with_suffix}
 use Rattle.obq_windows.proofs.AlikeCalls.{args_alike, as_pair}
 use Rattle.obq_windows.proofs.Lists.{item_here}
 use Rattle.obq_windows.proofs.Slots.{alike, behind_none, capture_is, first_of, name_alike, next_here, node_here, not_above, regrouped, second_of}
@@ -73,6 +73,40 @@ proc_alike {R} T S g a thread count act b bound d w ns fs fr at params block pla
           (if c then tree_moved Stepped fs (tree_raises (codes "closure_limit")) else tree_made fs (TreeValue (ClosureValue thread count (h.nodes.0 ∷ []) 0 (captured_values T (place_at act bound) (captured_by (outside_at T (place_at act bound)) (bound_names bound) (AProc params block place))))))
       by_depth true = inr (record { tag = refl; makes = refl; height = b; frames = fr; focus = refl })
       by_depth false = inr (record { tag = refl; makes = refl; height = b; frames = fr; focus = refl })
+
+-- a method that a field gets
+pub method_alike : {R : Type 0} → (T : Table R) (S : Store R) → Agrees T S → (o : R) (x : Bytes) (thread count : ℕ) (act : Activation R) (b : ℕ) (bound : List (Bound R)) → PlaceLaw T (place_at act bound) → IsBound act b bound → (ns : List (NodeFrame R)) (fs : List (TreeFrame R)) → FramesAre T S act b ns fs → (at : ℕ) (params : List Bytes) (block : BlockTree) (place : ℕ)
+    → (h : StandsAt T S act.code (draft_field (outside_at T (place_at act bound)) (bound_names bound) (MethodOf (AProc params block place))) at)
+    → Same T S (method_node S thread count o x act ns (node_at S act.code at)) (method_tree T thread count (h.nodes.0 ∷ []) (place_at act bound) o x (AProc params block place) fs)
+method_alike {R} T S g o x thread count act b bound d w ns fs fr at params block place h =
+    at_node T S act.code at (n.Meth h.nodes.0 (slots_of (outside_at T (place_at act bound)) (bound_names bound) (captured_by (outside_at T (place_at act bound)) (bound_names bound) (AProc params block place)))) (method_node S thread count o x act ns) _
+    (item_here (nodes_of (S.code act.code)) at _ h.nodes.1 h.nodes.2)
+    (subst (λ (vs : PlainValues R). Same T S (if nat_lt CLOSURE_LIMIT (depth_of_values vs) then node_moved Stepped act ns (node_raises (codes "closure_limit")) else node_closed (node_moved (Asks (PlainSetMethod o x (ClosureValue thread count (h.nodes.0 ∷ []) 0 vs))) act ns (NodeAct (PlainSetMethod o x (ClosureValue thread count (h.nodes.0 ∷ []) 0 vs)) NodeHere))) (method_tree T thread count (h.nodes.0 ∷ []) (place_at act bound) o x (AProc params block place) fs))
+    (sym (capture_is T S act b bound w d.members (captured_by (outside_at T (place_at act bound)) (bound_names bound) (AProc params block place)) (λ x e. captured_covered (outside_at T (place_at act bound)) (bound_names bound) (free_procedure [] (AProc params block place)) x e)))
+    (subst (λ (c : Bool). Same T S (if c then node_moved Stepped act ns (node_raises (codes "closure_limit")) else node_closed (node_moved (Asks (PlainSetMethod o x (ClosureValue thread count (h.nodes.0 ∷ []) 0 (captured_values T (place_at act bound) (captured_by (outside_at T (place_at act bound)) (bound_names bound) (AProc params block place)))))) act ns (NodeAct (PlainSetMethod o x (ClosureValue thread count (h.nodes.0 ∷ []) 0 (captured_values T (place_at act bound) (captured_by (outside_at T (place_at act bound)) (bound_names bound) (AProc params block place))))) NodeHere)))
+    (method_tree T thread count (h.nodes.0 ∷ []) (place_at act bound) o x (AProc params block place) fs))
+    (sym (d.proc params block place)) (by_depth (is_too_deep (read (hide params (env_at T (place_at act bound))) (open_block (writer_at T (place_at act bound)) (inside (outside_at T (place_at act bound)) [] (captured_by (outside_at T (place_at act bound)) (bound_names bound) (AProc params block place))) params block)))))) where
+      by_depth : (c : Bool) → Same T S (if c then node_moved Stepped act ns (node_raises (codes "closure_limit")) else node_closed (node_moved (Asks (PlainSetMethod o x (ClosureValue thread count (h.nodes.0 ∷ []) 0 (captured_values T (place_at act bound) (captured_by (outside_at T (place_at act bound)) (bound_names bound) (AProc params block place)))))) act ns (NodeAct (PlainSetMethod o x (ClosureValue thread count (h.nodes.0 ∷ []) 0 (captured_values T (place_at act bound) (captured_by (outside_at T (place_at act bound)) (bound_names bound) (AProc params block place))))) NodeHere)))
+          (if c then tree_moved Stepped fs (tree_raises (codes "closure_limit")) else tree_closed (tree_moved (Asks (PlainSetMethod o x (ClosureValue thread count (h.nodes.0 ∷ []) 0 (captured_values T (place_at act bound) (captured_by (outside_at T (place_at act bound)) (bound_names bound) (AProc params block place)))))) fs (TreeAct (PlainSetMethod o x (ClosureValue thread count (h.nodes.0 ∷ []) 0 (captured_values T (place_at act bound) (captured_by (outside_at T (place_at act bound)) (bound_names bound) (AProc params block place))))) TreeHere)))
+      by_depth true = inr (record { tag = refl; makes = refl; height = b; frames = fr; focus = refl })
+      by_depth false = inr (record { tag = refl; makes = refl; height = b; frames = fr; focus = (NodeHere, refl, refl) })
+
+pub set_method_alike : {R : Type 0} → (T : Table R) (S : Store R) → Agrees T S → (thread count : ℕ) (act : Activation R) (b : ℕ) (bound : List (Bound R)) → PlaceLaw T (place_at act bound) → IsBound act b bound → (ns : List (NodeFrame R)) (fs : List (TreeFrame R)) → FramesAre T S act b ns fs → (at : ℕ) (v : PlainValue R) (x : Bytes) (params : List Bytes) (block : BlockTree) (place : ℕ)
+    → (h : StandsAt T S act.code (draft_field (outside_at T (place_at act bound)) (bound_names bound) (MethodOf (AProc params block place))) at)
+    → Same T S (set_method_node S thread count v x act ns (node_at S act.code at)) (set_method_tree T thread count (h.nodes.0 ∷ []) (place_at act bound) v x (AProc params block place) fs)
+set_method_alike T S g thread count act b bound d w ns fs fr at (LocationValue Object o) x params block place h = method_alike T S g o x thread count act b bound d w ns fs fr at params block place h
+set_method_alike T S g thread count act b bound d w ns fs fr at (IntValue z) x params block place h = inr (record { tag = refl; makes = refl; height = b; frames = fr; focus = refl })
+set_method_alike T S g thread count act b bound d w ns fs fr at (TruthValue z) x params block place h = inr (record { tag = refl; makes = refl; height = b; frames = fr; focus = refl })
+set_method_alike T S g thread count act b bound d w ns fs fr at OkayValue x params block place h = inr (record { tag = refl; makes = refl; height = b; frames = fr; focus = refl })
+set_method_alike T S g thread count act b bound d w ns fs fr at (TextValue z) x params block place h = inr (record { tag = refl; makes = refl; height = b; frames = fr; focus = refl })
+set_method_alike T S g thread count act b bound d w ns fs fr at (ExceptionValue z) x params block place h = inr (record { tag = refl; makes = refl; height = b; frames = fr; focus = refl })
+set_method_alike T S g thread count act b bound d w ns fs fr at (ThreadValue z) x params block place h = inr (record { tag = refl; makes = refl; height = b; frames = fr; focus = refl })
+set_method_alike T S g thread count act b bound d w ns fs fr at (LocationValue Array z) x params block place h = inr (record { tag = refl; makes = refl; height = b; frames = fr; focus = refl })
+set_method_alike T S g thread count act b bound d w ns fs fr at (LocationValue Variable z) x params block place h = inr (record { tag = refl; makes = refl; height = b; frames = fr; focus = refl })
+set_method_alike T S g thread count act b bound d w ns fs fr at (LocationValue Writer z) x params block place h = inr (record { tag = refl; makes = refl; height = b; frames = fr; focus = refl })
+set_method_alike T S g thread count act b bound d w ns fs fr at (LocationValue Condition z) x params block place h = inr (record { tag = refl; makes = refl; height = b; frames = fr; focus = refl })
+set_method_alike T S g thread count act b bound d w ns fs fr at (LocationValue Engine z) x params block place h = inr (record { tag = refl; makes = refl; height = b; frames = fr; focus = refl })
+set_method_alike T S g thread count act b bound d w ns fs fr at (ClosureValue t c group index cs) x params block place h = inr (record { tag = refl; makes = refl; height = b; frames = fr; focus = refl })
 
 -- a node that is neither an item's nor stands for a suffix
 abbrev pub plain_node : Node → Bool

@@ -14,7 +14,7 @@ use Rattle.obq_model.specs.Step.{is_call_limit}
 use Rattle.obq_model.specs.Terms.{Array, Bytes, Condition, Engine, Object, Variable, Writer}
 use Rattle.obq_model.proofs.Drafted.{drafted_expr}
 use Rattle.obq_windows.specs.Agrees.{AfterIs, Agrees, FocusIs, FramesAre, IsBound, Same, StandsAt, place_at}
-use Rattle.obq_windows.specs.Moves.{act_ends, begin_args, call_code, call_plain, clone_tree, entered, finish_args, tree_act, tree_result}
+use Rattle.obq_windows.specs.Moves.{act_ends, begin_args, call_code, call_plain, clone_tree, entered, finish_args, none_refused, tree_act, tree_refused, tree_result}
 use Rattle.obq_windows.specs.Places.{Bound, bound_names, bound_values, outside_at, place_of, proc_outside, zipped}
 use Rattle.obq_windows.specs.Results.{Does, Gives, PlainResult, Raises, alias_set, applied, array_made, indexed, invoked, item_set, objects_in, redirected, value_set}
 use Rattle.obq_windows.specs.Trees.{Asks, BlockTask, Callee, ExprTask, Kept, KeptRaising, KeptValue, PendingArguments, PendingCalled, PlainCloning, PlainOperation, PlainRunEngine, Silent, Stepped, ToArray, ToBuiltin, ToCall, ToClone, ToIndex, ToInvoke, ToRedirect, ToSetAlias, ToSetIndex, ToSetValue, TreeAct, TreeAfter, TreeFrame, TreeHere, TreeRaising, TreeRun, TreeValue, push, tree_moved, tree_raises}
@@ -122,8 +122,8 @@ call_alike {R} T S g a act b bound w ns fs fr (ClosureValue thread count group i
   by_limit false = by_code (slice_get group index)
 call_alike {R} T S g a act b bound w ns fs fr (LocationValue Engine e) [] = either_raises T S act b ns fs fr (is_call_limit a) (codes "call_limit") (codes "arity")
 call_alike {R} T S g a act b bound w ns fs fr (LocationValue Engine e) (f ∷ []) =
-    subst (λ (count : PlainValue R → Option ℕ). Same T S (act_node (act_ends count a (PlainRunEngine e f)) (PlainRunEngine e f) NodeHere act ns) (tree_act (act_ends (tree_params T) a (PlainRunEngine e f)) (PlainRunEngine e f) TreeHere fs)) (sym (params_same T S g))
-    (act_alike T S act b ns fs fr NodeHere TreeHere refl (PlainRunEngine e f) (act_ends (tree_params T) a (PlainRunEngine e f)))
+    subst (λ (count : PlainValue R → Option ℕ). Same T S (act_node (act_ends count none_refused a (PlainRunEngine e f)) (PlainRunEngine e f) NodeHere act ns) (tree_act (act_ends (tree_params T) (tree_refused T) a (PlainRunEngine e f)) (PlainRunEngine e f) TreeHere fs)) (sym (params_same T S g))
+    (act_alike T S act b ns fs fr NodeHere TreeHere refl (PlainRunEngine e f) (act_ends (tree_params T) (tree_refused T) a (PlainRunEngine e f)))
 call_alike {R} T S g a act b bound w ns fs fr (LocationValue Engine e) (f ∷ z ∷ vs) = either_raises T S act b ns fs fr (is_call_limit a) (codes "call_limit") (codes "arity")
 call_alike T S g a act b bound w ns fs fr (LocationValue Object r) vs = alike T S Stepped act b ns (node_raises (codes "type")) fs (tree_raises (codes "type")) fr refl
 call_alike T S g a act b bound w ns fs fr (LocationValue Array r) vs = alike T S Stepped act b ns (node_raises (codes "type")) fs (tree_raises (codes "type")) fr refl

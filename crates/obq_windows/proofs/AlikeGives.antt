@@ -1,7 +1,7 @@
 -- A value, and a raising, in a frame: nodes and trees do the same.
 use Rattle.std.specs.Prelude.{Bool, List, None, Option, Some, [], bytes_eq, codes, drop, false, if◌then◌else◌, int_lt, pos, refl, slice_get, suc, true, ℕ, ℤ, ◌++◌, ◌+ℤ◌, ◌+◌, ◌∷◌, ◌≡◌, ◌≤◌}
 use Rattle.obq_base.specs.declared.code.Node.TheVariants as n
-use Rattle.std.proofs.Common.{ap, arith, inl, subst, sym, ◌∙◌}
+use Rattle.std.proofs.Common.{ap, arith, subst, sym, ◌∙◌}
 use Rattle.obq_base.specs.Tree.{ALink, AliasOf, AnArm, AnExpr, ApplySuffix, ArmTrees, BindTrees, BlockTree, ExprTree, FieldTree, IndexSuffix, InvokeSuffix, ItemTrees, LinkTrees, MaybeBlock, MethodOf, NoArms, NoExprs, NoLinks, SelectSuffix, SuffixTree, SuffixTrees, ValueOf}
 use Rattle.obq_base.specs.declared.code.Node.{Node}
 use Rattle.obq_base.specs.declared.trees.Operator.{Operator}
@@ -16,9 +16,9 @@ use Rattle.obq_model.proofs.Drafted.{drafted_block, drafted_expr, drafted_suffix
 use Rattle.obq_windows.specs.Agrees.{Agrees, Alike, FramesAre, IsBound, Same, StandsAt, place_at}
 use Rattle.obq_windows.specs.Moves.{begin_args, begin_arms, begin_binds, begin_count, begin_vars, begin_watch, count_at, give_and, give_field, give_foreach, give_guard, give_if, give_left, give_or, give_raise, give_suffix, give_testing, give_to, give_watch, leave_tree, next_count, with_links, with_suffixes}
 use Rattle.obq_windows.specs.Places.{Bound, bind_of, bound_names, outside_at, with_bound}
-use Rattle.obq_windows.specs.Trees.{Asks, BlockTask, ExprTask, Kept, KeptRaising, KeptValue, PendingChain, PendingCount, PendingEach, PendingGuard, PendingRight, PendingTesting, PlainEachSize, PlainGet, PlainLeave, PlainLineUp, Silent, Stepped, ToCall, ToIndex, ToInvoke, ToSetAlias, ToSetValue, TreeAct, TreeFrame, TreeHere, TreeRaising, TreeRun, TreeScope, TreeTest, TreeUnmet, TreeValue, push, tree_moved, tree_raises}
+use Rattle.obq_windows.specs.Trees.{Asks, BlockTask, ExprTask, Kept, KeptRaising, KeptValue, PendingChain, PendingCount, PendingEach, PendingGuard, PendingRight, PendingTesting, PlainEachSize, PlainGet, PlainLeave, PlainLineUp, Silent, Stepped, ToCall, ToIndex, ToInvoke, ToSetAlias, ToSetValue, TreeAct, TreeFrame, TreeHere, TreeMethod, TreeRaising, TreeRun, TreeScope, TreeTest, TreeUnmet, TreeValue, push, tree_moved, tree_raises}
 use Rattle.obq_windows.specs.Values.{ClosureValue, ExceptionValue, IntValue, LocationValue, OkayValue, PlainValue, Table, TextValue, ThreadValue, TruthValue}
-use Rattle.obq_windows.specs.Windows.{Activation, NodeAct, NodeChain, NodeCount, NodeEach, NodeFrame, NodeGuard, NodeHere, NodeMoved, NodeRaising, NodeRight, NodeRun, NodeScope, NodeTest, NodeTesting, NodeUnmet, NodeValue, Store, args_node, begin_node_watch, bind, binds_node, count_node, count_node_at, give_node_and, give_node_field, give_node_foreach, give_node_guard, give_node_if, give_node_left, give_node_or, give_node_raise, give_node_suffix, give_node_testing, give_node_to, give_node_watch, guards_node, leave_node, next_count_node, node_at, node_moved, node_raises, operator_in, vars_node, with_operator, with_suffix}
+use Rattle.obq_windows.specs.Windows.{Activation, NodeAct, NodeChain, NodeCount, NodeEach, NodeFrame, NodeGuard, NodeHere, NodeMethod, NodeMoved, NodeRaising, NodeRight, NodeRun, NodeScope, NodeTest, NodeTesting, NodeUnmet, NodeValue, Store, args_node, begin_node_watch, bind, binds_node, count_node, count_node_at, give_node_and, give_node_field, give_node_foreach, give_node_guard, give_node_if, give_node_left, give_node_or, give_node_raise, give_node_suffix, give_node_testing, give_node_to, give_node_watch, guards_node, leave_node, next_count_node, node_at, node_moved, node_raises, operator_in, vars_node, with_operator, with_suffix}
 use Rattle.obq_windows.proofs.Alike.{arms_alike, at_node, expr_head, plain_node, suffix_frames}
 use Rattle.obq_windows.proofs.AlikeCalls.{alone, args_alike}
 use Rattle.obq_windows.proofs.AlikeItems.{binds_alike, respelled, vars_alike}
@@ -278,7 +278,7 @@ field_alike T S g a act b bound w ns fs fr child x (AliasOf y e place) v h =
     (args_alike T S g a act b bound w ns fs fr (ToSetAlias x y) (v ∷ []) (suc child) (AnExpr e NoExprs) (alone T S (next_here T S h)))
 field_alike T S g a act b bound w ns fs fr child x (MethodOf q) v h =
     at_node T S act.code child (n.Meth h.nodes.0 (slots_of (outside_at T (place_at act bound)) (bound_names bound) (captured_by (outside_at T (place_at act bound)) (bound_names bound) q))) (give_node_field S a v x act ns child b) _
-    (item_here (nodes_of (S.code act.code)) child _ h.nodes.1 h.nodes.2) (inl (refl, refl))
+    (item_here (nodes_of (S.code act.code)) child _ h.nodes.1 h.nodes.2) (alike T S Silent act b ns (NodeMethod v x child b) fs (TreeMethod (place_at act bound) v x q) fr (child, refl, (bound, refl, w), h))
 
 pub guards_alike : {R : Type 0} → (T : Table R) (S : Store R) → Agrees T S → (act : Activation R) (b : ℕ) (bound : List (Bound R)) → IsBound act b bound → (ns : List (NodeFrame R)) (fs : List (TreeFrame R)) → FramesAre T S act b ns fs → (e : Bytes) (at : ℕ) (arms : ArmTrees) (last : MaybeBlock)
     → StandsAt T S act.code (Both (draft_arms (outside_at T (place_at act bound)) (bound_names bound) arms) (draft_maybe (outside_at T (place_at act bound)) (bound_names bound) last)) at

@@ -19,7 +19,7 @@ use Rattle.obq_windows.specs.Agrees.{AfterIs, Agrees, Alike, FocusIs, FrameIs, F
 use Rattle.obq_windows.specs.Complete.{AllComplete, CompleteAfter, CompleteFocus, CompleteFrames, CompleteOperation, CompletePending, CompletePlace, IsComplete, Knows}
 use Rattle.obq_windows.specs.Moves.{begin_vars}
 use Rattle.obq_windows.specs.Places.{Place, bind_of, outside_at, place_of, with_bound, zipped}
-use Rattle.obq_windows.specs.Trees.{BlockTask, ExprTask, GuardScope, ItemsTask, NameScope, NoScope, PendingCalled, PendingEach, PendingForm, PendingTesting, PendingWithin, PlainAgain, PlainBroadcast, PlainCloning, PlainEachItem, PlainEachSize, PlainExport, PlainForkOff, PlainGet, PlainGiveUp, PlainImport, PlainInvoke, PlainItemOf, PlainJoin, PlainLeave, PlainLineUp, PlainNewArray, PlainNewCondition, PlainNewEngine, PlainNewVariable, PlainOperation, PlainRead, PlainRedirect, PlainRunEngine, PlainSetAlias, PlainSetItem, PlainSetValue, PlainSetVariable, PlainSignal, PlainSize, PlainWrite, ScopeKind, Silent, TreeAct, TreeAfter, TreeFocus, TreeFrame, TreeHere, TreeMoved, TreeRaising, TreeRun, TreeScope, TreeTest, TreeUnder, TreeUnmet, TreeValue, act_form, block_at, expr_at, frames_of, kind_of, names_at, pending_frames, push, read_operation, scope_after, scope_at, term_of, tree_moved, vars_at}
+use Rattle.obq_windows.specs.Trees.{BlockTask, ExprTask, GuardScope, ItemsTask, NameScope, NoScope, PendingCalled, PendingEach, PendingForm, PendingTesting, PendingWithin, PlainAgain, PlainBroadcast, PlainCloning, PlainEachItem, PlainEachSize, PlainExport, PlainForkOff, PlainGet, PlainGiveUp, PlainImport, PlainInvoke, PlainItemOf, PlainJoin, PlainLeave, PlainLineUp, PlainNewArray, PlainNewCondition, PlainNewEngine, PlainNewVariable, PlainOperation, PlainRead, PlainRedirect, PlainRunEngine, PlainSetAlias, PlainSetItem, PlainSetMethod, PlainSetValue, PlainSetVariable, PlainSignal, PlainSize, PlainWrite, ScopeKind, Silent, TreeAct, TreeAfter, TreeFocus, TreeFrame, TreeHere, TreeMethod, TreeMoved, TreeRaising, TreeRun, TreeScope, TreeTest, TreeUnder, TreeUnmet, TreeValue, act_form, block_at, expr_at, frames_of, kind_of, names_at, pending_frames, push, read_operation, scope_after, scope_at, term_of, tree_moved, vars_at}
 use Rattle.obq_windows.specs.Values.{ClosureValue, ExceptionValue, IntValue, LocationValue, NoValues, OkayValue, PlainValue, Table, TextValue, ThreadValue, TruthValue, closure_of, proc_named, read_all, read_value, read_values}
 use Rattle.obq_windows.specs.Windows.{Activation, NodeAct, NodeAfter, NodeCalled, NodeEach, NodeFocus, NodeFrame, NodeMoved, NodeRun, NodeTesting, NodeWithin, Store, activation_of, bind, node_moved, vars_node}
 use Rattle.obq_windows.proofs.Acts.{Asked, act_asks}
@@ -63,6 +63,7 @@ at_act T S act b op na (TreeRun p (ItemsTask (AnItem i is))) h = not_act op na _
 at_act T S act b op na (TreeValue v) h = not_act op na _ refl h
 at_act T S act b op na (TreeRaising r) h = not_act op na _ refl h
 at_act T S act b op na (TreeUnmet p e last) h = not_act op na _ refl h.1
+at_act T S act b op na (TreeMethod p v x q) h = not_act op na _ refl h.1
 at_act {R} T S act b op na (TreeAct op2 after) h = record {
   after = after;
   is_act = ap (λ (z : PlainOperation R). TreeAct z after) (ap (λ (z : NodeFocus R). unwrap_or (operation_at z) op) (sym h.1));
@@ -103,6 +104,7 @@ scope_is T (PlainLineUp o c) after l = refl
 scope_is T (PlainGiveUp o c) after l = refl
 scope_is T (PlainAgain o c) after l = refl
 scope_is T PlainNewCondition after l = sym (no_scope T PlainNewCondition after refl l)
+scope_is T (PlainSetMethod o x m) after l = sym (no_scope T (PlainSetMethod o x m) after refl l)
 scope_is T (PlainCloning flags fields (o ∷ rest)) after l = sym (no_scope T (PlainCloning flags fields (o ∷ rest)) after refl l)
 scope_is T (PlainCloning (Some flags) fields []) after l = sym (no_scope T (PlainCloning (Some flags) fields []) after refl l)
 scope_is T (PlainCloning None fields []) after l = sym (no_scope T (PlainCloning None fields []) after refl l)
@@ -181,6 +183,7 @@ value_answered {R} T S g act b ns fs fr k (PlainItemOf r i) na after h l v c = r
 value_answered {R} T S g act b ns fs fr k (PlainSize r) na after h l v c = record { same = record { tag = refl; makes = refl; height = b; frames = fr; focus = refl }; complete = record { frames = k; focus = c }; term = refl }
 value_answered {R} T S g act b ns fs fr k (PlainNewArray vs) na after h l v c = record { same = record { tag = refl; makes = refl; height = b; frames = fr; focus = refl }; complete = record { frames = k; focus = c }; term = refl }
 value_answered {R} T S g act b ns fs fr k PlainNewCondition na after h l v c = record { same = record { tag = refl; makes = refl; height = b; frames = fr; focus = refl }; complete = record { frames = k; focus = c }; term = refl }
+value_answered {R} T S g act b ns fs fr k (PlainSetMethod o x m) na after h l v c = record { same = record { tag = refl; makes = refl; height = b; frames = fr; focus = refl }; complete = record { frames = k; focus = c }; term = refl }
 value_answered {R} T S g act b ns fs fr k (PlainCloning flags fields (o ∷ rest)) na after h l v c = record { same = record { tag = refl; makes = refl; height = b; frames = fr; focus = refl }; complete = record { frames = k; focus = c }; term = refl }
 value_answered {R} T S g act b ns fs fr k (PlainCloning (Some flags) fields []) na after h l v c = record { same = record { tag = refl; makes = refl; height = b; frames = fr; focus = refl }; complete = record { frames = k; focus = c }; term = refl }
 value_answered {R} T S g act b ns fs fr k (PlainCloning None fields []) na after h l v c = record { same = record { tag = refl; makes = refl; height = b; frames = fr; focus = refl }; complete = record { frames = k; focus = c }; term = refl }
@@ -230,6 +233,7 @@ test_answered T S act b ns fs fr k (PlainItemOf r i) na after h l = record { sam
 test_answered T S act b ns fs fr k (PlainSize r) na after h l = record { same = record { tag = refl; makes = refl; height = b; frames = fr; focus = refl }; complete = record { frames = k; focus = tt }; term = refl }
 test_answered T S act b ns fs fr k (PlainNewArray vs) na after h l = record { same = record { tag = refl; makes = refl; height = b; frames = fr; focus = refl }; complete = record { frames = k; focus = tt }; term = refl }
 test_answered T S act b ns fs fr k PlainNewCondition na after h l = record { same = record { tag = refl; makes = refl; height = b; frames = fr; focus = refl }; complete = record { frames = k; focus = tt }; term = refl }
+test_answered T S act b ns fs fr k (PlainSetMethod o x m) na after h l = record { same = record { tag = refl; makes = refl; height = b; frames = fr; focus = refl }; complete = record { frames = k; focus = tt }; term = refl }
 test_answered T S act b ns fs fr k (PlainCloning flags fields (o ∷ rest)) na after h l = record { same = record { tag = refl; makes = refl; height = b; frames = fr; focus = refl }; complete = record { frames = k; focus = tt }; term = refl }
 test_answered T S act b ns fs fr k (PlainCloning (Some flags) fields []) na after h l = record { same = record { tag = refl; makes = refl; height = b; frames = fr; focus = refl }; complete = record { frames = k; focus = tt }; term = refl }
 test_answered T S act b ns fs fr k (PlainCloning None fields []) na after h l = record { same = record { tag = refl; makes = refl; height = b; frames = fr; focus = refl }; complete = record { frames = k; focus = tt }; term = refl }

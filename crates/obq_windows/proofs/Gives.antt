@@ -17,9 +17,9 @@ use Rattle.obq_windows.specs.Meanings.{Moves}
 use Rattle.obq_windows.specs.Moves.{begin_args, begin_arms, begin_binds, begin_count, begin_if, begin_rest, begin_watch, count_activations, count_at, give_and, give_field, give_foreach, give_guard, give_if, give_left, give_or, give_pending, give_raise, give_suffix, give_testing, give_to, give_watch, going_on, leave_tree, next_count, target_value, tree_result, tree_self, with_links, with_suffixes}
 use Rattle.obq_windows.specs.Places.{Place, bind_of, env_at, outside_at, with_bound, writer_at}
 use Rattle.obq_windows.specs.Results.{assigned, operated}
-use Rattle.obq_windows.specs.Trees.{Asks, BlockTask, Callee, ExprTask, Kept, KeptRaising, KeptValue, PendingArguments, PendingAssign, PendingCalled, PendingChain, PendingCount, PendingEach, PendingField, PendingFirst, PendingForeach, PendingForm, PendingGuard, PendingHead, PendingIf, PendingKept, PendingLast, PendingLet, PendingLoop, PendingRaise, PendingRight, PendingTesting, PendingThen, PendingTo, PendingTry, PendingVar, PendingWatch, PendingWithin, PlainEachItem, PlainEachSize, PlainGet, PlainLeave, PlainLineUp, PlainNewVariable, Silent, Stepped, ToArray, ToBuiltin, ToCall, ToClone, ToIndex, ToInvoke, ToRedirect, ToSetAlias, ToSetIndex, ToSetValue, TreeAct, TreeFrame, TreeHere, TreeRaising, TreeRun, TreeScope, TreeTest, TreeUnder, TreeUnmet, TreeValue, arms_at, block_at, callee_frame, expr_at, exprs_at, field_frame, frames_of, if_at, kept_term, let_at, link_frame, linked_kind, links_around, names_at, pending_frames, push, scope_at, suffix_frame, suffixes_around, tree_moved, tree_raises, vars_at}
+use Rattle.obq_windows.specs.Trees.{Asks, BlockTask, Callee, ExprTask, Kept, KeptRaising, KeptValue, PendingArguments, PendingAssign, PendingCalled, PendingChain, PendingCount, PendingEach, PendingField, PendingFirst, PendingForeach, PendingForm, PendingGuard, PendingHead, PendingIf, PendingKept, PendingLast, PendingLet, PendingLoop, PendingRaise, PendingRight, PendingTesting, PendingThen, PendingTo, PendingTry, PendingVar, PendingWatch, PendingWithin, PlainEachItem, PlainEachSize, PlainGet, PlainLeave, PlainLineUp, PlainNewVariable, Silent, Stepped, ToArray, ToBuiltin, ToCall, ToClone, ToIndex, ToInvoke, ToRedirect, ToSetAlias, ToSetIndex, ToSetValue, TreeAct, TreeFrame, TreeHere, TreeMethod, TreeRaising, TreeRun, TreeScope, TreeTest, TreeUnder, TreeUnmet, TreeValue, arms_at, block_at, callee_frame, expr_at, exprs_at, field_frame, frames_of, if_at, kept_term, let_at, link_frame, linked_kind, links_around, names_at, pending_frames, push, scope_at, suffix_frame, suffixes_around, tree_moved, tree_raises, vars_at}
 use Rattle.obq_windows.specs.Values.{ClosureValue, ExceptionValue, IntValue, IsMadeTable, LocationValue, OkayValue, PlainValue, Table, TextValue, ThreadValue, TruthValue, proc_of, read_all, read_value, read_values}
-use Rattle.obq_windows.proofs.Around.{asks, found_in, links_frames, pushed, silent, stepped, suffixes_frames, to_here, to_pushed}
+use Rattle.obq_windows.proofs.Around.{asks, found_in, here, links_frames, pushed, silent, stepped, suffixes_frames, to_here, to_pushed}
 use Rattle.obq_windows.proofs.Begins.{args_right, callee_form, of_term, result_right, suffix_args}
 use Rattle.obq_windows.proofs.Closing.{rest_starts}
 use Rattle.obq_windows.proofs.Envs.{bound_more, names_more}
@@ -280,7 +280,7 @@ field_given : {R : Type 0} → (eq : R → R → Bool) (T : Table R) (a : ℕ) (
     → Moves eq T a s (plug (frames_of T fs) (fill (field_frame T p x body) (Const (read_value T v)))) (give_field T (count_activations a fs) v p x body fs)
 field_given eq T a s w v p x (ValueOf e) fs = args_right eq T a s w fs (ToSetValue x) p (v ∷ []) (AnExpr e NoExprs)
 field_given eq T a s w v p x (AliasOf y e place) fs = args_right eq T a s w fs (ToSetAlias x y) p (v ∷ []) (AnExpr e NoExprs)
-field_given eq T a s w v p x (MethodOf q) fs = tt
+field_given eq T a s w v p x (MethodOf q) fs = silent eq T a s fs _ (tree_moved Silent fs (TreeMethod p v x q)) (record { tag_is = refl; leads = here T fs (TreeMethod p v x q) _ refl })
 
 -- a value in a frame
 pub given : {R : Type 0} → (eq : R → R → Bool) (T : Table R) (a : ℕ) (s : Self R) → IsMadeTable T → (v : PlainValue R) (p : Place R) (pending : PendingForm R) (fs : List (TreeFrame R))

@@ -17,6 +17,7 @@ pub mod Example
 pub mod Frames
 pub mod Gives
 pub mod Keeps
+pub mod KeepsResults
 pub mod Lists
 pub mod Members
 pub mod Openings
