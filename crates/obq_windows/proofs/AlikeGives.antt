@@ -19,11 +19,12 @@ use Rattle.obq_windows.specs.Places.{Bound, bind_of, bound_names, outside_at, wi
 use Rattle.obq_windows.specs.Trees.{Asks, BlockTask, ExprTask, Kept, KeptRaising, KeptValue, PendingChain, PendingCount, PendingEach, PendingGuard, PendingRight, PendingTesting, PlainEachSize, PlainGet, PlainLeave, PlainLineUp, Silent, Stepped, ToCall, ToIndex, ToInvoke, ToSetAlias, ToSetValue, TreeAct, TreeFrame, TreeHere, TreeMethod, TreeRaising, TreeRun, TreeScope, TreeTest, TreeUnmet, TreeValue, push, tree_moved, tree_raises}
 use Rattle.obq_windows.specs.Values.{ClosureValue, ExceptionValue, IntValue, LocationValue, OkayValue, PlainValue, Table, TextValue, ThreadValue, TruthValue}
 use Rattle.obq_windows.specs.Windows.{Activation, NodeAct, NodeChain, NodeCount, NodeEach, NodeFrame, NodeGuard, NodeHere, NodeMethod, NodeMoved, NodeRaising, NodeRight, NodeRun, NodeScope, NodeTest, NodeTesting, NodeUnmet, NodeValue, Store, args_node, begin_node_watch, bind, binds_node, count_node, count_node_at, give_node_and, give_node_field, give_node_foreach, give_node_guard, give_node_if, give_node_left, give_node_or, give_node_raise, give_node_suffix, give_node_testing, give_node_to, give_node_watch, guards_node, leave_node, next_count_node, node_at, node_moved, node_raises, operator_in, vars_node, with_operator, with_suffix}
-use Rattle.obq_windows.proofs.Alike.{arms_alike, at_node, expr_head, plain_node, suffix_frames}
+use Rattle.obq_windows.proofs.Alike.{arms_alike, suffix_frames}
 use Rattle.obq_windows.proofs.AlikeCalls.{alone, args_alike}
 use Rattle.obq_windows.proofs.AlikeItems.{binds_alike, respelled, vars_alike}
 use Rattle.obq_windows.proofs.Envs.{names_more}
 use Rattle.obq_windows.proofs.Frames.{bound_all, frames_kept, frames_up, place_kept}
+use Rattle.obq_windows.proofs.Heads.{at_node, expr_head, plain_node}
 use Rattle.obq_windows.proofs.Lists.{behind_here, item_here, past_end}
 use Rattle.obq_windows.proofs.Slots.{alike, behind_none, first_of, next_here, node_here, not_above, regrouped, second_of}
 

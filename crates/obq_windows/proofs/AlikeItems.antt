@@ -23,10 +23,11 @@ use Rattle.obq_windows.specs.Places.{Bound, Place, bound_names, bound_values, ou
 use Rattle.obq_windows.specs.Trees.{ExprTask, ItemsTask, PendingAssign, PendingField, PendingLet, PendingThen, PendingVar, Silent, Stepped, Tag, ToSetIndex, TreeFrame, TreeMoved, TreeRun, TreeValue, push, tree_moved, tree_raises}
 use Rattle.obq_windows.specs.Values.{ClosureValue, OkayValue, PlainValues, Table, depth_of_values}
 use Rattle.obq_windows.specs.Windows.{Activation, NodeAssign, NodeField, NodeFrame, NodeItems, NodeLet, NodeMoved, NodeRun, NodeThen, NodeValue, NodeVar, Store, begin_node, bind, binds_node, group_values, item_node, items_node, node_at, node_closed, node_moved, node_raises, vars_node, with_item}
-use Rattle.obq_windows.proofs.Alike.{at_node, expr_alike, expr_head, item_plain}
+use Rattle.obq_windows.proofs.Alike.{expr_alike}
 use Rattle.obq_windows.proofs.AlikeCalls.{args_alike, as_triple}
 use Rattle.obq_windows.proofs.Closing.{member_bound_names, names_append}
 use Rattle.obq_windows.proofs.Frames.{bound_all, frames_kept, frames_up}
+use Rattle.obq_windows.proofs.Heads.{at_node, expr_head, item_plain}
 use Rattle.obq_windows.proofs.Lists.{item_here}
 use Rattle.obq_windows.proofs.Slots.{alike, capture_is, first_of, next_here, node_here, not_above, second_of}
 

@@ -19,7 +19,7 @@ use Rattle.obq_windows.specs.Agrees.{AfterIs, Agrees, Alike, FocusIs, FrameIs, F
 use Rattle.obq_windows.specs.Complete.{AllComplete, CompleteAfter, CompleteFocus, CompleteFrames, CompleteOperation, CompletePending, CompletePlace, IsComplete, Knows}
 use Rattle.obq_windows.specs.Moves.{begin_vars}
 use Rattle.obq_windows.specs.Places.{Place, bind_of, outside_at, place_of, with_bound, zipped}
-use Rattle.obq_windows.specs.Trees.{BlockTask, ExprTask, GuardScope, ItemsTask, NameScope, NoScope, PendingCalled, PendingEach, PendingForm, PendingTesting, PendingWithin, PlainAgain, PlainBroadcast, PlainCloning, PlainEachItem, PlainEachSize, PlainExport, PlainForkOff, PlainGet, PlainGiveUp, PlainImport, PlainInvoke, PlainItemOf, PlainJoin, PlainLeave, PlainLineUp, PlainNewArray, PlainNewCondition, PlainNewEngine, PlainNewVariable, PlainOperation, PlainRead, PlainRedirect, PlainRunEngine, PlainSetAlias, PlainSetItem, PlainSetMethod, PlainSetValue, PlainSetVariable, PlainSignal, PlainSize, PlainWrite, ScopeKind, Silent, TreeAct, TreeAfter, TreeFocus, TreeFrame, TreeHere, TreeMethod, TreeMoved, TreeRaising, TreeRun, TreeScope, TreeTest, TreeUnder, TreeUnmet, TreeValue, act_form, block_at, expr_at, frames_of, kind_of, names_at, pending_frames, push, read_operation, scope_after, scope_at, term_of, tree_moved, vars_at}
+use Rattle.obq_windows.specs.Trees.{BlockTask, ExprTask, GuardScope, ItemsTask, NameScope, NoScope, PendingCalled, PendingEach, PendingForm, PendingTesting, PendingWithin, PlainAgain, PlainBroadcast, PlainCloning, PlainEachItem, PlainEachSize, PlainExport, PlainForkOff, PlainGet, PlainGiveUp, PlainImport, PlainInvoke, PlainItemOf, PlainJoin, PlainLeave, PlainLineUp, PlainNewArray, PlainNewCondition, PlainNewEngine, PlainNewVariable, PlainOperation, PlainRead, PlainRedirect, PlainRunEngine, PlainSetAlias, PlainSetItem, PlainSetMethod, PlainSetValue, PlainSetVariable, PlainSignal, PlainSize, PlainWrite, ScopeKind, Silent, TreeAct, TreeAfter, TreeFocus, TreeFrame, TreeHere, TreeMake, TreeMethod, TreeMoved, TreeRaising, TreeRun, TreeScope, TreeTest, TreeUnder, TreeUnmet, TreeValue, act_form, block_at, expr_at, frames_of, kind_of, names_at, pending_frames, push, read_operation, scope_after, scope_at, term_of, tree_moved, vars_at}
 use Rattle.obq_windows.specs.Values.{ClosureValue, ExceptionValue, IntValue, LocationValue, NoValues, OkayValue, PlainValue, Table, TextValue, ThreadValue, TruthValue, closure_of, proc_named, read_all, read_value, read_values}
 use Rattle.obq_windows.specs.Windows.{Activation, NodeAct, NodeAfter, NodeCalled, NodeEach, NodeFocus, NodeFrame, NodeMoved, NodeRun, NodeTesting, NodeWithin, Store, activation_of, bind, node_moved, vars_node}
 use Rattle.obq_windows.proofs.Acts.{Asked, act_asks}
@@ -64,6 +64,7 @@ at_act T S act b op na (TreeValue v) h = not_act op na _ refl h
 at_act T S act b op na (TreeRaising r) h = not_act op na _ refl h
 at_act T S act b op na (TreeUnmet p e last) h = not_act op na _ refl h.1
 at_act T S act b op na (TreeMethod p v x q) h = not_act op na _ refl h.1
+at_act T S act b op na (TreeMake p flags done) h = not_act op na _ refl h.1
 at_act {R} T S act b op na (TreeAct op2 after) h = record {
   after = after;
   is_act = ap (λ (z : PlainOperation R). TreeAct z after) (ap (λ (z : NodeFocus R). unwrap_or (operation_at z) op) (sym h.1));

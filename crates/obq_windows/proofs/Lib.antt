@@ -3,6 +3,7 @@ pub mod Alike
 pub mod AlikeCalls
 pub mod AlikeGives
 pub mod AlikeItems
+pub mod AlikeLiterals
 pub mod AlikeMoves
 pub mod Answering
 pub mod Around
@@ -16,9 +17,13 @@ pub mod Envs
 pub mod Example
 pub mod Frames
 pub mod Gives
+pub mod Heads
 pub mod Keeps
+pub mod KeepsLiterals
+pub mod Layouts
 pub mod KeepsResults
 pub mod Lists
+pub mod Literals
 pub mod Members
 pub mod Openings
 pub mod Operators
