@@ -1,7 +1,7 @@
 -- A part that begins: nodes and trees do the same.
 use Rattle.std.specs.Prelude.{Bool, List, None, Option, Some, [], codes, false, if◌then◌else◌, nat_lt, refl, slice_get, suc, true, ℕ, ◌∷◌, ◌≡◌}
 use Rattle.obq_base.specs.declared.code.Node.TheVariants as n
-use Rattle.std.proofs.Common.{inr, subst, sym}
+use Rattle.std.proofs.Common.{subst, sym}
 use Rattle.obq_base.specs.Tree.{ABlock, ALink, AProc, ASuffix, AnArm, AnExpr, ApplySuffix, ArmTrees, ArrayTree, BlockTree, ChainTree, CloneTree, ExitTree, ExprTree, FinallyTree, ForTree, ForeachTree, IfTree, IndexSuffix, IntTree, InvokeSuffix, LinkTrees, LoopTree, MaybeBlock, MethodOf, NameTree, NoArms, NoBlock, NoExprs, NoLinks, NoSuffixes, ObjectTree, OkTree, ProcTree, RaiseTree, RedirectTree, SelectSuffix, SuffixTrees, SuffixedTree, TextTree, TruthTree, TryTree, WatchTree}
 use Rattle.obq_base.specs.declared.code.CodeNo.{CodeNo}
 use Rattle.obq_base.specs.declared.code.Node.{Node}
@@ -68,8 +68,8 @@ proc_alike {R} T S g a thread count act b bound d w ns fs fr at params block pla
     (sym (d.proc params block place)) (by_depth (is_too_deep (read (hide params (env_at T (place_at act bound))) (open_block (writer_at T (place_at act bound)) (inside (outside_at T (place_at act bound)) [] (captured_by (outside_at T (place_at act bound)) (bound_names bound) (AProc params block place))) params block)))))) where
       by_depth : (c : Bool) → Same T S (if c then node_moved Stepped act ns (node_raises (codes "closure_limit")) else node_made act ns (NodeValue (ClosureValue thread count (h.nodes.0 ∷ []) 0 (captured_values T (place_at act bound) (captured_by (outside_at T (place_at act bound)) (bound_names bound) (AProc params block place))))))
           (if c then tree_moved Stepped fs (tree_raises (codes "closure_limit")) else tree_made fs (TreeValue (ClosureValue thread count (h.nodes.0 ∷ []) 0 (captured_values T (place_at act bound) (captured_by (outside_at T (place_at act bound)) (bound_names bound) (AProc params block place))))))
-      by_depth true = inr (record { tag = refl; makes = refl; height = b; frames = fr; focus = refl })
-      by_depth false = inr (record { tag = refl; makes = refl; height = b; frames = fr; focus = refl })
+      by_depth true = record { tag = refl; makes = refl; height = b; frames = fr; focus = refl }
+      by_depth false = record { tag = refl; makes = refl; height = b; frames = fr; focus = refl }
 
 -- a method that a field gets
 pub method_alike : {R : Type 0} → (T : Table R) (S : Store R) → Agrees T S → (o : R) (x : Bytes) (thread count : ℕ) (act : Activation R) (b : ℕ) (bound : List (Bound R)) → PlaceLaw T (place_at act bound) → IsBound act b bound → (ns : List (NodeFrame R)) (fs : List (TreeFrame R)) → FramesAre T S act b ns fs → (at : ℕ) (params : List Bytes) (block : BlockTree) (place : ℕ)
@@ -85,25 +85,25 @@ method_alike {R} T S g o x thread count act b bound d w ns fs fr at params block
     (sym (d.proc params block place)) (by_depth (is_too_deep (read (hide params (env_at T (place_at act bound))) (open_block (writer_at T (place_at act bound)) (inside (outside_at T (place_at act bound)) [] (captured_by (outside_at T (place_at act bound)) (bound_names bound) (AProc params block place))) params block)))))) where
       by_depth : (c : Bool) → Same T S (if c then node_moved Stepped act ns (node_raises (codes "closure_limit")) else node_closed (node_moved (Asks (PlainSetMethod o x (ClosureValue thread count (h.nodes.0 ∷ []) 0 (captured_values T (place_at act bound) (captured_by (outside_at T (place_at act bound)) (bound_names bound) (AProc params block place)))))) act ns (NodeAct (PlainSetMethod o x (ClosureValue thread count (h.nodes.0 ∷ []) 0 (captured_values T (place_at act bound) (captured_by (outside_at T (place_at act bound)) (bound_names bound) (AProc params block place))))) NodeHere)))
           (if c then tree_moved Stepped fs (tree_raises (codes "closure_limit")) else tree_closed (tree_moved (Asks (PlainSetMethod o x (ClosureValue thread count (h.nodes.0 ∷ []) 0 (captured_values T (place_at act bound) (captured_by (outside_at T (place_at act bound)) (bound_names bound) (AProc params block place)))))) fs (TreeAct (PlainSetMethod o x (ClosureValue thread count (h.nodes.0 ∷ []) 0 (captured_values T (place_at act bound) (captured_by (outside_at T (place_at act bound)) (bound_names bound) (AProc params block place))))) TreeHere)))
-      by_depth true = inr (record { tag = refl; makes = refl; height = b; frames = fr; focus = refl })
-      by_depth false = inr (record { tag = refl; makes = refl; height = b; frames = fr; focus = (NodeHere, refl, refl) })
+      by_depth true = record { tag = refl; makes = refl; height = b; frames = fr; focus = refl }
+      by_depth false = record { tag = refl; makes = refl; height = b; frames = fr; focus = (NodeHere, refl, refl) }
 
 pub set_method_alike : {R : Type 0} → (T : Table R) (S : Store R) → Agrees T S → (thread count : ℕ) (act : Activation R) (b : ℕ) (bound : List (Bound R)) → PlaceLaw T (place_at act bound) → IsBound act b bound → (ns : List (NodeFrame R)) (fs : List (TreeFrame R)) → FramesAre T S act b ns fs → (at : ℕ) (v : PlainValue R) (x : Bytes) (params : List Bytes) (block : BlockTree) (place : ℕ)
     → (h : StandsAt T S act.code (draft_field (outside_at T (place_at act bound)) (bound_names bound) (MethodOf (AProc params block place))) at)
     → Same T S (set_method_node S thread count v x act ns (node_at S act.code at)) (set_method_tree T thread count (h.nodes.0 ∷ []) (place_at act bound) v x (AProc params block place) fs)
 set_method_alike T S g thread count act b bound d w ns fs fr at (LocationValue Object o) x params block place h = method_alike T S g o x thread count act b bound d w ns fs fr at params block place h
-set_method_alike T S g thread count act b bound d w ns fs fr at (IntValue z) x params block place h = inr (record { tag = refl; makes = refl; height = b; frames = fr; focus = refl })
-set_method_alike T S g thread count act b bound d w ns fs fr at (TruthValue z) x params block place h = inr (record { tag = refl; makes = refl; height = b; frames = fr; focus = refl })
-set_method_alike T S g thread count act b bound d w ns fs fr at OkayValue x params block place h = inr (record { tag = refl; makes = refl; height = b; frames = fr; focus = refl })
-set_method_alike T S g thread count act b bound d w ns fs fr at (TextValue z) x params block place h = inr (record { tag = refl; makes = refl; height = b; frames = fr; focus = refl })
-set_method_alike T S g thread count act b bound d w ns fs fr at (ExceptionValue z) x params block place h = inr (record { tag = refl; makes = refl; height = b; frames = fr; focus = refl })
-set_method_alike T S g thread count act b bound d w ns fs fr at (ThreadValue z) x params block place h = inr (record { tag = refl; makes = refl; height = b; frames = fr; focus = refl })
-set_method_alike T S g thread count act b bound d w ns fs fr at (LocationValue Array z) x params block place h = inr (record { tag = refl; makes = refl; height = b; frames = fr; focus = refl })
-set_method_alike T S g thread count act b bound d w ns fs fr at (LocationValue Variable z) x params block place h = inr (record { tag = refl; makes = refl; height = b; frames = fr; focus = refl })
-set_method_alike T S g thread count act b bound d w ns fs fr at (LocationValue Writer z) x params block place h = inr (record { tag = refl; makes = refl; height = b; frames = fr; focus = refl })
-set_method_alike T S g thread count act b bound d w ns fs fr at (LocationValue Condition z) x params block place h = inr (record { tag = refl; makes = refl; height = b; frames = fr; focus = refl })
-set_method_alike T S g thread count act b bound d w ns fs fr at (LocationValue Engine z) x params block place h = inr (record { tag = refl; makes = refl; height = b; frames = fr; focus = refl })
-set_method_alike T S g thread count act b bound d w ns fs fr at (ClosureValue t c group index cs) x params block place h = inr (record { tag = refl; makes = refl; height = b; frames = fr; focus = refl })
+set_method_alike T S g thread count act b bound d w ns fs fr at (IntValue z) x params block place h = record { tag = refl; makes = refl; height = b; frames = fr; focus = refl }
+set_method_alike T S g thread count act b bound d w ns fs fr at (TruthValue z) x params block place h = record { tag = refl; makes = refl; height = b; frames = fr; focus = refl }
+set_method_alike T S g thread count act b bound d w ns fs fr at OkayValue x params block place h = record { tag = refl; makes = refl; height = b; frames = fr; focus = refl }
+set_method_alike T S g thread count act b bound d w ns fs fr at (TextValue z) x params block place h = record { tag = refl; makes = refl; height = b; frames = fr; focus = refl }
+set_method_alike T S g thread count act b bound d w ns fs fr at (ExceptionValue z) x params block place h = record { tag = refl; makes = refl; height = b; frames = fr; focus = refl }
+set_method_alike T S g thread count act b bound d w ns fs fr at (ThreadValue z) x params block place h = record { tag = refl; makes = refl; height = b; frames = fr; focus = refl }
+set_method_alike T S g thread count act b bound d w ns fs fr at (LocationValue Array z) x params block place h = record { tag = refl; makes = refl; height = b; frames = fr; focus = refl }
+set_method_alike T S g thread count act b bound d w ns fs fr at (LocationValue Variable z) x params block place h = record { tag = refl; makes = refl; height = b; frames = fr; focus = refl }
+set_method_alike T S g thread count act b bound d w ns fs fr at (LocationValue Writer z) x params block place h = record { tag = refl; makes = refl; height = b; frames = fr; focus = refl }
+set_method_alike T S g thread count act b bound d w ns fs fr at (LocationValue Condition z) x params block place h = record { tag = refl; makes = refl; height = b; frames = fr; focus = refl }
+set_method_alike T S g thread count act b bound d w ns fs fr at (LocationValue Engine z) x params block place h = record { tag = refl; makes = refl; height = b; frames = fr; focus = refl }
+set_method_alike T S g thread count act b bound d w ns fs fr at (ClosureValue t c group index cs) x params block place h = record { tag = refl; makes = refl; height = b; frames = fr; focus = refl }
 
 -- the frame for suffixes from a node on
 pub suffix_frames : {R : Type 0} → (T : Table R) (S : Store R) (act : Activation R) (b : ℕ) (bound : List (Bound R)) → IsBound act b bound → (ns : List (NodeFrame R)) (fs : List (TreeFrame R)) → FramesAre T S act b ns fs → (at : ℕ) (ss : SuffixTrees)

@@ -1,7 +1,7 @@
 -- Object literals: nodes and trees do the same.
 use Rattle.std.specs.Prelude.{Bool, List, None, Option, Some, [], codes, false, if◌then◌else◌, nat_lt, not, refl, suc, true, ℕ, ◌++◌, ◌||◌, ◌∷◌, ◌≡◌}
 use Rattle.obq_base.specs.declared.code.Node.TheVariants as n
-use Rattle.std.proofs.Common.{ap, inr, subst, sym, ◌∙◌}
+use Rattle.std.proofs.Common.{ap, subst, sym, ◌∙◌}
 use Rattle.obq_base.specs.Tree.{AField, AProc, AliasOf, FieldTrees, MethodOf, NoFields, ProcedureTree, ValueOf}
 use Rattle.obq_base.specs.declared.code.CodeNo.{CodeNo}
 use Rattle.obq_base.specs.declared.code.Node.{Node}
@@ -173,4 +173,4 @@ make_alike {R} T S thread count act b p ns fs fr flags nodes done k =
       at true c d = alike T S Stepped act b ns (node_raises (codes "field_twice")) fs (tree_raises (codes "field_twice")) fr refl
       at false false d = alike T S Stepped act b ns (node_raises (codes "type")) fs (tree_raises (codes "type")) fr refl
       at false true true = alike T S Stepped act b ns (node_raises (codes "closure_limit")) fs (tree_raises (codes "closure_limit")) fr refl
-      at false true false = inr (record { tag = refl; makes = refl; height = b; frames = fr; focus = (NodeHere, refl, refl) })
+      at false true false = record { tag = refl; makes = refl; height = b; frames = fr; focus = (NodeHere, refl, refl) }

@@ -82,10 +82,10 @@ suffixed eq T a s w p e (ASuffix (ApplySuffix es place) ss) fs (Some r) =
     (ap (plug (frames_of T fs)) (suffixes_read T p ss (Form (Apply (builtin_at r)) (open_exprs (writer_at T p) (outside_at T p) (names_at p) es)))
     ∙ sym (plug_append (frames_of T fs) (suffixes_around T p ss) _) ∙ ap (λ gs. plug gs (Form (Apply (builtin_at r)) (exprs_at T p es))) (sym (suffixes_frames T p ss fs)))
     (suffix_args eq T a s w fs (ToBuiltin r) p [] es ss)
-suffixed eq T a s w p e NoSuffixes fs (Some r) = tt
-suffixed eq T a s w p e (ASuffix (SelectSuffix x place) ss) fs (Some r) = tt
-suffixed eq T a s w p e (ASuffix (InvokeSuffix x es place) ss) fs (Some r) = tt
-suffixed eq T a s w p e (ASuffix (IndexSuffix i place) ss) fs (Some r) = tt
+suffixed eq T a s w p e NoSuffixes fs (Some r) = silent eq T a s fs _ (tree_moved Silent fs (TreeValue OkayValue)) (record { tag_is = refl; leads = here T fs (TreeValue OkayValue) _ refl })
+suffixed eq T a s w p e (ASuffix (SelectSuffix x place) ss) fs (Some r) = silent eq T a s fs _ (tree_moved Silent fs (TreeValue OkayValue)) (record { tag_is = refl; leads = here T fs (TreeValue OkayValue) _ refl })
+suffixed eq T a s w p e (ASuffix (InvokeSuffix x es place) ss) fs (Some r) = silent eq T a s fs _ (tree_moved Silent fs (TreeValue OkayValue)) (record { tag_is = refl; leads = here T fs (TreeValue OkayValue) _ refl })
+suffixed eq T a s w p e (ASuffix (IndexSuffix i place) ss) fs (Some r) = silent eq T a s fs _ (tree_moved Silent fs (TreeValue OkayValue)) (record { tag_is = refl; leads = here T fs (TreeValue OkayValue) _ refl })
 
 expr_begins : {R : Type 0} → (eq : R → R → Bool) (T : Table R) (a : ℕ) (s : Self R) → IsMadeTable T → (thread count : ℕ) (numbers : List CodeNo) (p : Place R) (e : ExprTree) (fs : List (TreeFrame R)) → HintExpr T numbers p e
     → Moves eq T a s (plug (frames_of T fs) (expr_at T p e)) (begin_expr T (count_activations a fs) thread count numbers p e fs)
@@ -132,7 +132,7 @@ count_with_items a p (AnItem i is) fs = refl
 
 items_begin : {R : Type 0} → (eq : R → R → Bool) (T : Table R) (a : ℕ) (s : Self R) → IsMadeTable T → (thread count : ℕ) (numbers : List CodeNo) (p : Place R) (is : ItemTrees) (fs : List (TreeFrame R)) → HintItems T numbers p is
     → Moves eq T a s (plug (frames_of T fs) (items_at T p is)) (begin_items T (count_activations a fs) thread count numbers p is fs)
-items_begin eq T a s w thread count numbers p NoItems fs h = tt
+items_begin eq T a s w thread count numbers p NoItems fs h = silent eq T a s fs _ (tree_moved Silent fs (TreeValue OkayValue)) (record { tag_is = refl; leads = here T fs (TreeValue OkayValue) _ refl })
 items_begin eq T a s w thread count numbers p (AnItem (LetItem bs place) is) fs h = silent eq T a s fs _ (begin_binds Silent p bs is fs) (binds_start T fs Silent p bs is)
 items_begin eq T a s w thread count numbers p (AnItem (VarItem bs place) is) fs h = silent eq T a s fs _ (begin_vars Silent p bs is fs) (vars_start T fs Silent p bs is)
 items_begin eq T a s w thread count numbers p (AnItem (LetRecItem bs place) is) fs h = letrec_begins eq T a s w thread count numbers p bs place is fs h
