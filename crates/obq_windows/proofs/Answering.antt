@@ -19,7 +19,7 @@ use Rattle.obq_windows.specs.Agrees.{AfterIs, Agrees, FocusIs, FrameIs, FramesAr
 use Rattle.obq_windows.specs.Complete.{AllComplete, CompleteAfter, CompleteFocus, CompleteFrames, CompleteOperation, CompletePending, CompletePlace, IsComplete, Knows}
 use Rattle.obq_windows.specs.Moves.{begin_vars}
 use Rattle.obq_windows.specs.Places.{Place, bind_of, outside_at, place_of, with_bound, zipped}
-use Rattle.obq_windows.specs.Trees.{BlockTask, ExprTask, GuardScope, ItemsTask, NameScope, NoScope, PendingCalled, PendingEach, PendingForm, PendingTesting, PendingWithin, PlainAgain, PlainBroadcast, PlainCloning, PlainEachItem, PlainEachSize, PlainExport, PlainForkOff, PlainGet, PlainGiveUp, PlainImport, PlainInvoke, PlainItemOf, PlainJoin, PlainLeave, PlainLineUp, PlainNewArray, PlainNewCondition, PlainNewEngine, PlainNewVariable, PlainOperation, PlainRead, PlainRedirect, PlainRunEngine, PlainSetAlias, PlainSetItem, PlainSetMethod, PlainSetValue, PlainSetVariable, PlainSignal, PlainSize, PlainWrite, ScopeKind, Silent, TreeAct, TreeAfter, TreeFocus, TreeFrame, TreeHere, TreeMake, TreeMethod, TreeMoved, TreeRaising, TreeRun, TreeScope, TreeTest, TreeUnder, TreeUnmet, TreeValue, act_form, block_at, expr_at, frames_of, kind_of, names_at, pending_frames, push, read_operation, scope_after, scope_at, term_of, tree_moved, vars_at}
+use Rattle.obq_windows.specs.Trees.{BlockTask, ExprTask, GuardScope, ItemsTask, NameScope, NoScope, PendingCalled, PendingEach, PendingForm, PendingTesting, PendingWithin, PlainAgain, PlainBroadcast, PlainCloning, PlainEachItem, PlainEachSize, PlainExport, PlainForkOff, PlainGet, PlainGiveUp, PlainImport, PlainInvoke, PlainItemOf, PlainJoin, PlainLeave, PlainLineUp, PlainNewArray, PlainNewCondition, PlainNewEngine, PlainNewVariable, PlainOperation, PlainRead, PlainRedirect, PlainRunEngine, PlainSetAlias, PlainSetItem, PlainSetMethod, PlainSetValue, PlainSetVariable, PlainSignal, PlainSize, PlainWrite, ScopeKind, Silent, TreeAct, TreeAfter, TreeCall, TreeFocus, TreeFrame, TreeHere, TreeMake, TreeMethod, TreeMoved, TreeRaising, TreeRun, TreeScope, TreeTest, TreeUnder, TreeUnmet, TreeValue, act_form, block_at, expr_at, frames_of, kind_of, names_at, pending_frames, push, read_operation, scope_after, scope_at, term_of, tree_moved, vars_at}
 use Rattle.obq_windows.specs.Values.{ClosureValue, ExceptionValue, IntValue, LocationValue, NoValues, OkayValue, PlainValue, Table, TextValue, ThreadValue, TruthValue, closure_of, proc_named, read_all, read_value, read_values}
 use Rattle.obq_windows.specs.Windows.{Activation, NodeAct, NodeAfter, NodeCalled, NodeEach, NodeFocus, NodeFrame, NodeMoved, NodeRun, NodeTesting, NodeWithin, Store, activation_of, bind, node_moved, vars_node}
 use Rattle.obq_windows.proofs.Acts.{Asked, act_asks}
@@ -64,6 +64,7 @@ at_act T S act b op na (TreeRaising r) h = not_act op na _ refl h
 at_act T S act b op na (TreeUnmet p e last) h = not_act op na _ refl h.1
 at_act T S act b op na (TreeMethod p v x q) h = not_act op na _ refl h.1
 at_act T S act b op na (TreeMake p flags done) h = not_act op na _ refl h.1
+at_act T S act b op na (TreeCall p f vs) h = not_act op na _ refl h.0
 at_act {R} T S act b op na (TreeAct op2 after) h = record {
   after = after;
   is_act = ap (λ (z : PlainOperation R). TreeAct z after) (ap (λ (z : NodeFocus R). unwrap_or (operation_at z) op) (sym h.1));
@@ -131,10 +132,10 @@ same_kind T op p (TreeScope q x b) e l = (l.0, e ∙ l.1)
 same_kind T op p (TreeTest q x) e l = (l.0, e ∙ l.1)
 
 -- what an answer makes of the two windows
-record Answered {R : Type 0} (T : Table R) (S : Store R) (m : NodeMoved R) (t : TreeMoved R) (u : Term R) : Type 0 where
-  same : Same T S m t
-  complete : CompleteMoved T t
-  term : term_of T t.frames t.focus ≡ u
+pub record Answered {R : Type 0} (T : Table R) (S : Store R) (m : NodeMoved R) (t : TreeMoved R) (u : Term R) : Type 0 where
+  pub same : Same T S m t
+  pub complete : CompleteMoved T t
+  pub term : term_of T t.frames t.focus ≡ u
 
 -- a new variable goes under its name
 variable_answered : {R : Type 0} → (T : Table R) (S : Store R) → Agrees T S → (act : Activation R) (b : ℕ) (ns : List (NodeFrame R)) (fs : List (TreeFrame R)) → FramesAre T S act b ns fs → CompleteFrames T fs → (u : PlainValue R) (na : NodeAfter) (after : TreeAfter R) → AfterIs T S act b na after → CompleteAfter T (PlainNewVariable u) after
@@ -252,14 +253,14 @@ test_answered T S act b ns fs fr k (PlainJoin t) na after h l = record { same = 
 test_answered T S act b ns fs fr k (PlainNewVariable u) na after h l = record { same = record { tag = refl; makes = refl; height = b; frames = fr; focus = refl }; complete = record { frames = k; focus = tt }; term = refl }
 
 -- what stands around a body that is entered
-record Caller {R : Type 0} (T : Table R) (S : Store R) (act : Activation R) (f : NodeFrame R) (pending : PendingForm R) : Type 0 where
-  is_frame : (z : Activation R) (b : ℕ) (p : Place R) → FrameIs T S z b f p pending
-  back : (z : Activation R) → act_behind z f ≡ act
-  low : (b : ℕ) → height_behind b f ≡ length act.locals
-  complete : CompletePending T pending
-  same_frames : (p q : Place R) → pending_frames T p pending ≡ pending_frames T q pending
+pub record Caller {R : Type 0} (T : Table R) (S : Store R) (act : Activation R) (f : NodeFrame R) (pending : PendingForm R) : Type 0 where
+  pub is_frame : (z : Activation R) (b : ℕ) (p : Place R) → FrameIs T S z b f p pending
+  pub back : (z : Activation R) → act_behind z f ≡ act
+  pub low : (b : ℕ) → height_behind b f ≡ length act.locals
+  pub complete : CompletePending T pending
+  pub same_frames : (p q : Place R) → pending_frames T p pending ≡ pending_frames T q pending
 
-entered_answer : {R : Type 0} → (T : Table R) (S : Store R) → Agrees T S → (act : Activation R) (b : ℕ) (ns : List (NodeFrame R)) (fs : List (TreeFrame R)) → FramesAre T S act b ns fs → CompleteFrames T fs → (f : NodeFrame R) (pending : PendingForm R) → Caller T S act f pending → (around : Place R)
+pub entered_answer : {R : Type 0} → (T : Table R) (S : Store R) → Agrees T S → (act : Activation R) (b : ℕ) (ns : List (NodeFrame R)) (fs : List (TreeFrame R)) → FramesAre T S act b ns fs → CompleteFrames T fs → (f : NodeFrame R) (pending : PendingForm R) → Caller T S act f pending → (around : Place R)
     → (m : PlainValue R) (vs : List (PlainValue R)) → IsComplete T m → AllComplete T vs → Takes T m vs
     → Answered T S (enter_node_value f m vs act ns) (enter_tree_value T pending m vs fs) (plug (frames_of T fs) (plug (pending_frames T around pending) (body_with (read_value T m) (read_all T vs))))
 entered_answer {R} T S g act b ns fs fr k f pending caller around (ClosureValue thread count group index cs) vs c d t = by_code (slice_get group index) c.0 t where

@@ -15,6 +15,7 @@ pub mod Counts
 pub mod Depths
 pub mod Envs
 pub mod Example
+pub mod FirstWindows
 pub mod Frames
 pub mod Gives
 pub mod Heads
