@@ -1,3 +1,4 @@
+pub mod ActRows
 pub mod Acts
 pub mod Alike
 pub mod AlikeCalls
@@ -31,6 +32,7 @@ pub mod Operators
 pub mod Raises
 pub mod Recursion
 pub mod Results
+pub mod Rows
 pub mod Running
 pub mod Selves
 pub mod Slots
