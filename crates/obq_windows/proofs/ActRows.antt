@@ -7,7 +7,7 @@ use Rattle.obq_base.specs.declared.trees.Flags.{Flags}
 use Rattle.obq_model.specs.Cells.{cell_row, is_clear, is_refused, mode_for, owner_for}
 use Rattle.obq_model.specs.Procedures.{Proc}
 use Rattle.obq_model.specs.Step.{Needs, Operation, Self, activations_at, find, is_call_limit}
-use Rattle.obq_model.specs.Terms.{Bytes, Call, Exn, Object, Term}
+use Rattle.obq_model.specs.Terms.{Bytes, Exn, Object, Term}
 use Rattle.obq_model.proofs.Among.{true_false}
 use Rattle.obq_windows.specs.Acts.{AnswerMethod, CompleteAnswer, HasParameters, PlainAnswer, Takes}
 use Rattle.obq_windows.specs.Agrees.{Agrees}

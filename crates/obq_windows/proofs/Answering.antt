@@ -26,7 +26,7 @@ use Rattle.obq_windows.proofs.Acts.{Asked, act_asks}
 use Rattle.obq_windows.proofs.AlikeCalls.{at_entry}
 use Rattle.obq_windows.proofs.AlikeGives.{item_alike, var_alike}
 use Rattle.obq_windows.proofs.AlikeMoves.{self_alike}
-use Rattle.obq_windows.proofs.Around.{are_frames, whole}
+use Rattle.obq_windows.proofs.Around.{whole}
 use Rattle.obq_windows.proofs.Calls.{body_right}
 use Rattle.obq_windows.proofs.Frames.{frames_full}
 use Rattle.obq_windows.proofs.Gives.{block_entered, var_given}

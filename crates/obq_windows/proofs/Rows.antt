@@ -6,14 +6,14 @@ use Rattle.obq_base.specs.declared.trees.Flags.{Flags}
 use Rattle.obq_model.specs.Cells.{Ends, cell_row, copy_row, get_row, import_row, invoke_row, is_alias, is_clear, is_free, is_refused, item_at, item_row, items_of, line_row, mode_for, object_row, on_object_row, owned_cell, owner_for, redirect_row, set_at_target, set_here_row, set_item_row, set_row, set_variable_row, value_of, write_row}
 use Rattle.obq_model.specs.Exceptions.{arity, array_index, is_protected, not_value, raising, wrong_type}
 use Rattle.obq_model.specs.Put.{enter}
-use Rattle.obq_model.specs.Step.{Again, Broadcast, CallMethod, Copy, EachItem, Entered, Get, GetItem, GiveUp, Import, Itself, Leave, LineUp, Offered, Operation, RedirectTo, Self, Set, SetItem, SetVariable, Signal, Write, body_with, params_of, testing}
+use Rattle.obq_model.specs.Step.{Again, Broadcast, CallMethod, Copy, EachItem, Entered, Get, GetItem, Itself, LineUp, Offered, Operation, RedirectTo, Self, Set, SetItem, SetVariable, Signal, Write, body_with, params_of, testing}
 use Rattle.obq_model.specs.Store.{ArrayCell, Cell, ConditionCell, ObjectCell, aliased, append_fields, field, with_field}
-use Rattle.obq_model.specs.Terms.{Array, Bytes, Call, Called, Cloning, Closure, Condition, Const, EachAt, EachIn, End, Engine, Exc, Exn, Field, Fields, Form, Int, IsAlias, IsValue, Lined, Loc, Member, Object, Okay, Out, Part, Raised, Redirect, SetMethod, Term, Text, Thread, Truth, Value, Variable, Within, Writer}
+use Rattle.obq_model.specs.Terms.{Array, Bytes, Called, Cloning, Closure, Condition, Const, EachAt, EachIn, End, Engine, Exc, Exn, Field, Fields, Form, Int, IsAlias, IsValue, Lined, Loc, Member, Object, Okay, Out, Part, Raised, SetMethod, Term, Text, Thread, Truth, Value, Variable, Within, Writer}
 use Rattle.obq_model.proofs.Among.{true_false}
 use Rattle.obq_windows.specs.Acts.{AnswerForm, AnswerRaising, AnswerTest, AnswerValue, PlainAnswer, left_by}
 use Rattle.obq_windows.specs.Complete.{CompleteBody, CompleteFields, CompleteOperation, IsClosed}
 use Rattle.obq_windows.specs.Moves.{refused_method}
-use Rattle.obq_windows.specs.Rows.{AgainReads, CompleteLeft, ImportReads, MakesCell, NewReads, PlainArray, PlainCell, PlainCondition, PlainEnds, PlainEngine, PlainObject, PlainOutcome, PlainVariable, PlainWaits, PlainWriter, answer_raises, copy_plain, get_plain, invoke_plain, is_plain_free, item_plain, line_plain, object_plain, plain_aliased, plain_field, plain_item_at, plain_items, plain_owned, plain_row, plain_value, read_cell, read_outcome, redirect_plain, set_here_plain, set_item_plain, set_plain, set_variable_plain, takes_count, with_plain_field, write_plain}
+use Rattle.obq_windows.specs.Rows.{AgainReads, CompleteLeft, ImportReads, MakesCell, NewReads, PlainArray, PlainCell, PlainCondition, PlainEnds, PlainEngine, PlainObject, PlainOutcome, PlainVariable, PlainWaits, PlainWriter, ThreadsRead, answer_raises, copy_plain, get_plain, invoke_plain, is_plain_free, item_plain, line_plain, object_plain, plain_aliased, plain_field, plain_item_at, plain_items, plain_owned, plain_row, plain_value, read_cell, read_outcome, redirect_plain, set_here_plain, set_item_plain, set_plain, set_variable_plain, takes_count, with_plain_field, write_plain}
 use Rattle.obq_windows.specs.Trees.{AliasBody, KeptRaising, KeptValue, MethodBody, PlainAgain, PlainBody, PlainBroadcast, PlainCloning, PlainEachItem, PlainEachSize, PlainExport, PlainField, PlainForkOff, PlainGet, PlainGiveUp, PlainImport, PlainInvoke, PlainItemOf, PlainJoin, PlainLeave, PlainLineUp, PlainNewArray, PlainNewCondition, PlainNewEngine, PlainNewVariable, PlainOperation, PlainRead, PlainRedirect, PlainRunEngine, PlainSetAlias, PlainSetItem, PlainSetMethod, PlainSetValue, PlainSetVariable, PlainSignal, PlainSize, PlainWrite, ValueBody, field_of, method_of, method_part, read_body, read_fields, read_operation}
 use Rattle.obq_windows.specs.Values.{ClosureValue, ExceptionValue, IntValue, IsMadeTable, LocationValue, OkayValue, PlainValue, Table, TextValue, ThreadValue, TruthValue, proc_of, read_all, read_value, read_values, tree_params}
 use Rattle.obq_windows.proofs.Calls.{length_read, value_params}
@@ -381,3 +381,6 @@ new_reads T (PlainCloning None fields (o ∷ rest)) cell e scope r = absurd (tru
 new_reads T (PlainSignal c) cell e scope r = absurd (true_false (ap is_some (sym e)))
 new_reads T (PlainBroadcast c) cell e scope r = absurd (true_false (ap is_some (sym e)))
 new_reads T (PlainJoin u) cell e scope r = absurd (true_false (ap is_some (sym e)))
+
+pub threads_read : {R : Type 0} → ThreadsRead R
+threads_read T = record { forked = λ f t. refl; not_forked = λ f. refl; returned = λ t v. refl; failed = λ t e. refl; exported = λ x v. refl }

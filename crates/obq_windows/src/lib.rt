@@ -4,7 +4,7 @@
 ghost use Rattle.obq_windows.specs.Acts.{AnswersRead, SelfIsOwn, WindowsBegin};
 ghost use Rattle.obq_windows.specs.Laws.{OpeningReads, OpeningRuns, RunMoves, StepsAreThose, TreeMoves, WindowMoves};
 ghost use Rattle.obq_windows.specs.Programs.{ProgramsAgree, ProgramsRun};
-ghost use Rattle.obq_windows.specs.Rows.{AgainReads, ImportReads, NewReads, RowsComplete, RowsRead};
+ghost use Rattle.obq_windows.specs.Rows.{AgainReads, ImportReads, NewReads, RowsComplete, RowsRead, ThreadsRead};
 
 /// What stands next in the term of a window over trees is what its move says.
 pub fn tree_moves<R>()
@@ -63,6 +63,11 @@ pub fn import_reads<R, X>()
 /// See `again_reads`.
 pub fn new_reads<R>()
     ensures law { NewReads R }
+{}
+
+/// What a fork, a join and an export leave is what their answers say: a thread or the raising of `fork_limit`, how the thread ended, and `ok`.
+pub fn threads_read<R>()
+    ensures law { ThreadsRead R }
 {}
 
 /// Those pure steps are the ones that a journal's entry counts.
