@@ -1,30 +1,35 @@
 -- Items and blocks that begin, and values in frames: nodes and trees do the same.
 use Rattle.std.specs.Prelude.{Bool, List, [], codes, false, if◌then◌else◌, length, nat_lt, refl, suc, true, ℕ, ◌++◌, ◌+◌, ◌∷◌, ◌≡◌, ◌≤◌}
-use Rattle.std.proofs.Common.{ap, arith, inl, inr, subst, sym, ◌∙◌}
-use Rattle.std.proofs.lemmas.List.{append-nil, append_assoc}
 use Rattle.obq_base.specs.declared.code.Node.TheVariants as n
-use Rattle.obq_base.specs.Tree.{ABind, ARecBind, AnItem, AssignItem, BindTrees, BlockOf, BlockTree, ExprTree, FieldItem, IndexItem, ItemTree, ItemTrees, LetItem, LetRecItem, NoBinds, NoItems, NoRecBinds, PlainItem, RecBindTrees, VarItem}
+use Rattle.std.proofs.Common.{ap, arith, subst, sym, ◌∙◌}
+use Rattle.std.proofs.lemmas.List.{append-nil, append_assoc}
+use Rattle.obq_base.specs.Tree.{ABind, ARecBind, AnExpr, AnItem, AssignItem, BindTrees, BlockOf, BlockTree, ExprTree, FieldItem, IndexItem, ItemTree, ItemTrees, LetItem, LetRecItem, NoBinds, NoExprs, NoItems, NoRecBinds, PlainItem, RecBindTrees, VarItem}
 use Rattle.obq_base.specs.declared.code.CodeNo.{CodeNo}
+use Rattle.obq_base.specs.declared.limits.TheConstants.{CLOSURE_LIMIT}
 use Rattle.obq_model.specs.CodeLaws.{nodes_of}
 use Rattle.obq_model.specs.Depth.{deepest_of}
 use Rattle.obq_model.specs.Draft.{Draft, captured_by_group, count_binds, count_items, draft_binds, draft_block, draft_items}
-use Rattle.obq_model.specs.Occurrences.{bind_names, free_members, member_names}
+use Rattle.obq_model.specs.Occurrences.{bind_names, free_members, item_names, member_names}
 use Rattle.obq_model.specs.Procedures.{AreMembers}
 use Rattle.obq_model.specs.Scopes.{Outside, inside, slot_of, slots_of}
-use Rattle.obq_model.specs.Terms.{Bytes}
+use Rattle.obq_model.specs.Step.{SetItem}
+use Rattle.obq_model.specs.Terms.{Assign, Bytes, Let, LetRec, Var}
 use Rattle.obq_model.proofs.Drafted.{drafted_expr, drafted_item}
 use Rattle.obq_model.proofs.Occurring.{captured_covered}
 use Rattle.obq_windows.specs.Agrees.{Agrees, FramesAre, IsBound, Same, StandsAt, place_at}
 use Rattle.obq_windows.specs.Complete.{PlaceLaw}
-use Rattle.obq_windows.specs.Trees.{Bound, ExprTask, HintItems, ItemsTask, PendingLet, PendingThen, Place, Silent, Stepped, Tag, TreeFrame, TreeMoved, TreeRun, TreeValue, begin_binds, begin_block, begin_expr, begin_items, begin_letrec, begin_rest, bound_names, bound_values, captured_values, letrec_parts, member_values, outside_at, push, tree_closed, tree_moved, tree_raises, with_bound}
+use Rattle.obq_windows.specs.Moves.{HintItems, begin_binds, begin_block, begin_expr, begin_items, begin_letrec, begin_rest, begin_vars, captured_values, letrec_parts, member_values, tree_closed, with_items}
+use Rattle.obq_windows.specs.Places.{Bound, Place, bound_names, bound_values, outside_at, with_bound}
+use Rattle.obq_windows.specs.Trees.{ExprTask, ItemsTask, PendingAssign, PendingField, PendingLet, PendingThen, PendingVar, Silent, Stepped, Tag, ToSetIndex, TreeFrame, TreeMoved, TreeRun, TreeValue, push, tree_moved, tree_raises}
 use Rattle.obq_windows.specs.Values.{ClosureValue, OkayValue, PlainValues, Table, depth_of_values}
-use Rattle.obq_windows.specs.Windows.{Activation, NodeFrame, NodeItems, NodeLet, NodeMoved, NodeRun, NodeThen, NodeValue, Store, begin_node, bind, binds_node, group_values, item_node, items_node, node_at, node_closed, node_moved, node_raises}
-use Rattle.obq_windows.proofs.Alike.{at_node, expr_alike, expr_head, item_plain}
+use Rattle.obq_windows.specs.Windows.{Activation, NodeAssign, NodeField, NodeFrame, NodeItems, NodeLet, NodeMoved, NodeRun, NodeThen, NodeValue, NodeVar, Store, begin_node, bind, binds_node, group_values, item_node, items_node, node_at, node_closed, node_moved, node_raises, vars_node, with_item}
+use Rattle.obq_windows.proofs.Alike.{expr_alike}
+use Rattle.obq_windows.proofs.AlikeCalls.{args_alike, as_triple}
 use Rattle.obq_windows.proofs.Closing.{member_bound_names, names_append}
 use Rattle.obq_windows.proofs.Frames.{bound_all, frames_kept, frames_up}
+use Rattle.obq_windows.proofs.Heads.{at_node, expr_head, item_plain}
 use Rattle.obq_windows.proofs.Lists.{item_here}
 use Rattle.obq_windows.proofs.Slots.{alike, capture_is, first_of, next_here, node_here, not_above, second_of}
-use Rattle.obq_base.specs.declared.limits.TheConstants.{CLOSURE_LIMIT}
 
 -- ---- items
 
@@ -61,6 +66,30 @@ binds_alike T S g tag act b bound w ns fs fr child at (ABind x e place bs) is h 
     )
     (child, refl, (bound, refl, w), first_of T S h)
 
+pub vars_alike : {R : Type 0} → (T : Table R) (S : Store R) → Agrees T S → (tag : Tag R) (act : Activation R) (b : ℕ) (bound : List (Bound R)) → IsBound act b bound → (ns : List (NodeFrame R)) (fs : List (TreeFrame R)) → FramesAre T S act b ns fs → (child at : ℕ) (bs : BindTrees) (is : ItemTrees)
+    → StandsAt T S act.code (draft_binds (outside_at T (place_at act bound)) (bound_names bound) bs) child → StandsAt T S act.code (draft_items (outside_at T (place_at act bound)) (bound_names bound ++ bind_names bs) is) at
+    → Same T S (vars_node S tag act ns child (count_binds bs) at (count_items is) b) (begin_vars tag (place_at act bound) bs is fs)
+vars_alike T S g tag act b bound w ns fs fr child at NoBinds is h k =
+    rest_alike T S tag act b bound w ns fs fr at is (respelled (λ z. draft_items (outside_at T (place_at act bound)) z is) _ _ (append-nil (bound_names bound)) k)
+vars_alike T S g tag act b bound w ns fs fr child at (ABind x e place bs) is h k =
+    alike T S tag act b (NodeVar (S.end act.code child) (count_binds bs) at (count_items is) b ∷ ns) (NodeRun child b) (push (place_at act bound) (PendingVar x bs is) fs) (TreeRun (place_at act bound) (ExprTask e)) (
+      NodeVar (S.end act.code child) (count_binds bs) at (count_items is) b,
+      ns,
+      refl,
+      (
+        S.end act.code child,
+        at,
+        b,
+        refl,
+        not_above b,
+        (bound, refl, w),
+        second_of T S g (drafted_expr _ _ e) h,
+        respelled (λ z. draft_items (outside_at T (place_at act bound)) z is) _ _ (sym (append_assoc (bound_names bound) (x ∷ []) (bind_names bs))) k,
+      ),
+      fr,
+    )
+    (child, refl, (bound, refl, w), first_of T S h)
+
 -- ---- a group
 
 group_are_bound : {R : Type 0} → (T : Table R) (u : Outside) (group numbers : List CodeNo) (i : ℕ) (bs : RecBindTrees) (thread count : ℕ) (cs : PlainValues R) → AreMembers T.procs u group numbers i bs → group_values thread count group i cs numbers ≡ bound_values (member_values thread count group i cs (member_names bs))
@@ -77,8 +106,7 @@ group_length T u group (number ∷ numbers) i (ARecBind x q place bs) thread cou
 
 -- the same with a group that is made
 made_alike : {R : Type 0} → (T : Table R) (S : Store R) (m : NodeMoved R) (t : TreeMoved R) → Same T S m t → Same T S (node_closed m) (tree_closed t)
-made_alike T S m t (inl e) = inl e
-made_alike T S m t (inr k) = inr (record { tag = k.tag; makes = refl; height = k.height; frames = k.frames; focus = k.focus })
+made_alike T S m t k = record { tag = k.tag; makes = refl; height = k.height; frames = k.frames; focus = k.focus }
 
 letrec_alike : {R : Type 0} → (T : Table R) (S : Store R) → Agrees T S → (a thread count : ℕ) (act : Activation R) (b : ℕ) (bound : List (Bound R)) → PlaceLaw T (place_at act bound) → IsBound act b bound → (ns : List (NodeFrame R)) (fs : List (TreeFrame R)) → FramesAre T S act b ns fs → (at : ℕ) (bs : RecBindTrees) (place : ℕ) (is : ItemTrees)
     → (h : StandsAt T S act.code (draft_items (outside_at T (place_at act bound)) (bound_names bound) (AnItem (LetRecItem bs place) is)) at)
@@ -132,6 +160,16 @@ plain_alike {R} T S g a thread count act b bound d w ns fs fr at e (AnItem j is)
           (ap (begin_node S a thread count act (NodeThen (S.end act.code at) (count_items is) b ∷ ns) at b) hd.there ∙ sym (ap (item_node S a thread count act ns at (suc (count_items is)) b) hd.there ∙ item_plain S a thread count act ns at (suc (count_items is)) b hd.node hd.plain)) m.same;
     }
 
+-- the frame for the items behind one
+item_frames : {R : Type 0} → (T : Table R) (S : Store R) (act : Activation R) (b : ℕ) (bound : List (Bound R)) → IsBound act b bound → (ns : List (NodeFrame R)) (fs : List (TreeFrame R)) → FramesAre T S act b ns fs → (at : ℕ) (is : ItemTrees)
+    → StandsAt T S act.code (draft_items (outside_at T (place_at act bound)) (bound_names bound) is) at → FramesAre T S act b (with_item at (count_items is) b ns) (with_items (place_at act bound) is fs)
+item_frames T S act b bound w ns fs fr at NoItems h = fr
+item_frames T S act b bound w ns fs fr at (AnItem i is) h = (NodeThen at (count_items is) b, ns, refl, (at, b, refl, not_above b, (bound, refl, w), h), fr)
+
+-- behind an item that binds no name
+unbound_behind : {R : Type 0} → (T : Table R) (S : Store R) → Agrees T S → (number : CodeNo) (u : Outside) (names : List Bytes) (at : ℕ) (i : ItemTree) (is : ItemTrees) → item_names i ≡ [] → StandsAt T S number (draft_items u names (AnItem i is)) at → StandsAt T S number (draft_items u names is) (S.end number at)
+unbound_behind T S g number u names at i is e h = respelled (λ z. draft_items u z is) _ _ (ap (λ l. names ++ l) e ∙ append-nil names) (second_of T S g (drafted_item u names i) h)
+
 pub items_alike : {R : Type 0} → (T : Table R) (S : Store R) → Agrees T S → (a thread count : ℕ) (act : Activation R) (b : ℕ) (bound : List (Bound R)) → PlaceLaw T (place_at act bound) → IsBound act b bound → (ns : List (NodeFrame R)) (fs : List (TreeFrame R)) → FramesAre T S act b ns fs → (at : ℕ) (i : ItemTree) (is : ItemTrees)
     → StandsAt T S act.code (draft_items (outside_at T (place_at act bound)) (bound_names bound) (AnItem i is)) at
     → ItemsBegun T S (place_at act bound) (AnItem i is) (item_node S a thread count act ns at (count_items is) b (node_at S act.code at)) (λ numbers. begin_items T a thread count numbers (place_at act bound) (AnItem i is) fs)
@@ -143,10 +181,34 @@ items_alike T S g a thread count act b bound d w ns fs fr at (LetItem bs place) 
 }
 items_alike T S g a thread count act b bound d w ns fs fr at (LetRecItem bs place) is h = record { numbers = (first_of T S h).nodes.0; hint = (first_of T S h).nodes.3; same = letrec_alike T S g a thread count act b bound d w ns fs fr at bs place is h }
 items_alike T S g a thread count act b bound d w ns fs fr at (PlainItem e) is h = plain_alike T S g a thread count act b bound d w ns fs fr at e is h
-items_alike T S g a thread count act b bound d w ns fs fr at (VarItem bs place) is h = record { numbers = []; hint = tt; same = at_node T S act.code at (n.Var (count_binds bs)) (item_node S a thread count act ns at (count_items is) b) _ (node_here T S (first_of T S h)) (inl (refl, refl)) }
-items_alike T S g a thread count act b bound d w ns fs fr at (AssignItem x e place) is h = record { numbers = []; hint = tt; same = at_node T S act.code at (n.Assign (slot_of (outside_at T (place_at act bound)) (bound_names bound) x)) (item_node S a thread count act ns at (count_items is) b) _ (node_here T S (first_of T S h)) (inl (refl, refl)) }
-items_alike T S g a thread count act b bound d w ns fs fr at (FieldItem e x body place) is h = record { numbers = []; hint = tt; same = at_node T S act.code at (n.SetField x) (item_node S a thread count act ns at (count_items is) b) _ (node_here T S (first_of T S h)) (inl (refl, refl)) }
-items_alike T S g a thread count act b bound d w ns fs fr at (IndexItem e x i place) is h = record { numbers = []; hint = tt; same = at_node T S act.code at (n.SetItem) (item_node S a thread count act ns at (count_items is) b) _ (node_here T S (first_of T S h)) (inl (refl, refl)) }
+items_alike T S g a thread count act b bound d w ns fs fr at (VarItem bs place) is h = record {
+  numbers = [];
+  hint = tt;
+  same = at_node T S act.code at (n.Var (count_binds bs)) (item_node S a thread count act ns at (count_items is) b) _ (node_here T S (first_of T S h))
+      (vars_alike T S g Silent act b bound w ns fs fr (suc at) (S.end act.code at) bs is (next_here T S (first_of T S h)) (second_of T S g (drafted_item _ _ (VarItem bs place)) h));
+}
+items_alike T S g a thread count act b bound d w ns fs fr at (AssignItem x e place) is h = record {
+  numbers = [];
+  hint = tt;
+  same = at_node T S act.code at (n.Assign (slot_of (outside_at T (place_at act bound)) (bound_names bound) x)) (item_node S a thread count act ns at (count_items is) b) _ (node_here T S (first_of T S h))
+      (alike T S Silent act b _ (NodeRun (suc at) b) (push (place_at act bound) (PendingAssign x) (with_items (place_at act bound) is fs)) (TreeRun (place_at act bound) (ExprTask e))
+      (NodeAssign (slot_of (outside_at T (place_at act bound)) (bound_names bound) x) b, _, refl, (b, refl, not_above b, (bound, refl, w)), item_frames T S act b bound w ns fs fr (S.end act.code at) is (unbound_behind T S g _ _ _ at (AssignItem x e place) is refl h))
+      (suc at, refl, (bound, refl, w), next_here T S (first_of T S h)));
+}
+items_alike T S g a thread count act b bound d w ns fs fr at (FieldItem e x body place) is h = record {
+  numbers = [];
+  hint = tt;
+  same = at_node T S act.code at (n.SetField x) (item_node S a thread count act ns at (count_items is) b) _ (node_here T S (first_of T S h))
+      (alike T S Silent act b _ (NodeRun (suc at) b) (push (place_at act bound) (PendingField x body) (with_items (place_at act bound) is fs)) (TreeRun (place_at act bound) (ExprTask e))
+      (NodeField x (S.end act.code (suc at)) b, _, refl, (S.end act.code (suc at), b, refl, not_above b, (bound, refl, w), second_of T S g (drafted_expr _ _ e) (next_here T S (first_of T S h))), item_frames T S act b bound w ns fs fr (S.end act.code at) is (unbound_behind T S g _ _ _ at (FieldItem e x body place) is refl h))
+      (suc at, refl, (bound, refl, w), first_of T S (next_here T S (first_of T S h))));
+}
+items_alike T S g a thread count act b bound d w ns fs fr at (IndexItem e x i place) is h = record {
+  numbers = [];
+  hint = tt;
+  same = at_node T S act.code at n.SetItem (item_node S a thread count act ns at (count_items is) b) _ (node_here T S (first_of T S h))
+      (args_alike T S g a act b bound w _ _ (item_frames T S act b bound w ns fs fr (S.end act.code at) is (unbound_behind T S g _ _ _ at (IndexItem e x i place) is refl h)) ToSetIndex [] (suc at) (AnExpr e (AnExpr x (AnExpr i NoExprs))) (as_triple T S (next_here T S (first_of T S h))));
+}
 
 pub block_alike : {R : Type 0} → (T : Table R) (S : Store R) (a thread count : ℕ) (act : Activation R) (b : ℕ) (bound : List (Bound R)) → IsBound act b bound → (ns : List (NodeFrame R)) (fs : List (TreeFrame R)) → FramesAre T S act b ns fs → (at : ℕ) (block : BlockTree)
     → StandsAt T S act.code (draft_block (outside_at T (place_at act bound)) (bound_names bound) block) at → Same T S (begin_node S a thread count act ns at b (node_at S act.code at)) (begin_block (place_at act bound) block fs)

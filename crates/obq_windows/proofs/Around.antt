@@ -1,19 +1,22 @@
 -- The frames of a window around a part of it: from what stands next in the part to what stands next in the whole.
-use Rattle.std.specs.Prelude.{Bool, List, T, [], false, nat_lt, refl, suc, true, zero, ℕ, ◌++◌, ◌≤◌, ◌∷◌, ◌≡◌}
-use Rattle.std.proofs.Common.{subst, ap, sym, ◌∙◌, arith}
+use Rattle.std.specs.Prelude.{Bool, List, T, [], false, nat_lt, refl, suc, true, zero, ℕ, ◌++◌, ◌∷◌, ◌≡◌, ◌≤◌}
+use Rattle.std.proofs.Common.{ap, arith, subst, sym, ◌∙◌}
 use Rattle.std.proofs.lemmas.List.{append-nil}
-use Rattle.obq_base.specs.Tree.{ALink, ASuffix, ApplySuffix, ExprTree, ExprTrees, IndexSuffix, InvokeSuffix, LinkTrees, NoLinks, NoSuffixes, SelectSuffix, SuffixTree, SuffixTrees}
+use Rattle.obq_base.specs.Tree.{ALink, ASuffix, AliasOf, ApplySuffix, ExprTree, ExprTrees, FieldTree, IndexSuffix, InvokeSuffix, LinkTrees, MethodOf, NoLinks, NoSuffixes, SelectSuffix, SuffixTree, SuffixTrees, ValueOf}
 use Rattle.obq_base.specs.declared.trees.Operator.{Operator}
 use Rattle.obq_model.specs.Frames.{AreFrames, IsFrame, LetPass, is_stop}
-use Rattle.obq_model.specs.Opened.{open_chain, open_expr, open_suffix, open_suffixes}
-use Rattle.obq_model.specs.Opening.{linked}
+use Rattle.obq_model.specs.Opened.{open_chain, open_expr, open_field, open_suffix, open_suffixes}
+use Rattle.obq_model.specs.Opening.{layout_of, linked}
 use Rattle.obq_model.specs.Reading.{read}
 use Rattle.obq_model.specs.Step.{Found, Frame, Needs, Next, Pending, Self, activations_at, fill, find, is_operand, plug, self_at}
-use Rattle.obq_model.specs.Terms.{Called, Choosing, Counting, End, Finally, Finishing, For, Form, If, Kind, Let, Looping, Part, Parts, Raise, Term, Then, Try}
+use Rattle.obq_model.specs.Terms.{Assign, Bytes, Called, Choosing, Counting, EachIn, End, Finally, Finishing, For, Foreach, Form, If, Kind, Let, Looping, Part, Parts, Raise, SetMethod, Term, Testing, Then, Try, Var, Watch, Within}
 use Rattle.obq_model.proofs.Plug.{frames_append, needs_plug, plug_append, step_plug}
 use Rattle.obq_windows.specs.Meanings.{Means, Moves}
-use Rattle.obq_windows.specs.Trees.{Asks, Callee, PendingArguments, PendingCalled, PendingChain, PendingCount, PendingFirst, PendingForm, PendingGuard, PendingHead, PendingIf, PendingKept, PendingLast, PendingLet, PendingLoop, PendingRaise, PendingRight, PendingThen, PendingTo, PendingTry, Place, PlainOperation, Silent, Stepped, Tag, ToArray, ToBuiltin, ToCall, ToIndex, ToInvoke, TreeFocus, TreeFrame, TreeMoved, callee_frame, env_at, expr_at, exprs_at, focus_term, frames_of, link_frame, linked_kind, links_around, names_at, outside_at, pending_frames, push, read_operation, suffix_frame, suffixes_around, term_of, tree_moved, with_links, with_suffixes, writer_at}
+use Rattle.obq_windows.specs.Moves.{with_links, with_suffixes}
+use Rattle.obq_windows.specs.Places.{Place, env_at, outside_at, writer_at}
+use Rattle.obq_windows.specs.Trees.{Asks, Callee, PendingArguments, PendingAssign, PendingCalled, PendingChain, PendingCount, PendingEach, PendingField, PendingFirst, PendingForeach, PendingForm, PendingGuard, PendingHead, PendingIf, PendingKept, PendingLast, PendingLet, PendingLoop, PendingObject, PendingRaise, PendingRight, PendingTesting, PendingThen, PendingTo, PendingTry, PendingVar, PendingWatch, PendingWithin, PlainOperation, Silent, Stepped, Tag, ToArray, ToBuiltin, ToCall, ToClone, ToIndex, ToInvoke, ToRedirect, ToSetAlias, ToSetIndex, ToSetValue, TreeAct, TreeAfter, TreeFocus, TreeFrame, TreeMoved, callee_frame, expr_at, exprs_at, field_frame, fields_at, focus_term, frames_of, link_frame, linked_kind, links_around, names_at, pending_frames, push, read_operation, scope_after, suffix_frame, suffixes_around, term_of, tree_moved}
 use Rattle.obq_windows.specs.Values.{PlainValue, Table}
+use Rattle.obq_windows.proofs.Layouts.{literal_frame}
 
 -- a frame whose hole is its first part
 first_hole : {R : Type 0} → (k : Kind R) (after : Parts R) → is_operand k 0 ≡ true → IsFrame (Pending k [] after)
@@ -45,6 +48,11 @@ callee_is_frame T (ToCall f) done after = λ i l. refl
 callee_is_frame T (ToBuiltin row) done after = λ i l. refl
 callee_is_frame T ToArray done after = λ i l. refl
 callee_is_frame T ToIndex done after = λ i l. refl
+callee_is_frame T ToClone done after = λ i l. refl
+callee_is_frame T ToSetIndex done after = λ i l. refl
+callee_is_frame T (ToSetValue x) done after = λ i l. refl
+callee_is_frame T (ToSetAlias x y) done after = λ i l. refl
+callee_is_frame T ToRedirect done after = λ i l. refl
 callee_is_frame T (ToInvoke x) done after = λ i l. refl
 
 below_two : (i : ℕ) → i ≤ 1 → nat_lt i 2 ≡ true
@@ -54,24 +62,38 @@ below_two (suc (suc i)) l = absurd (none i l) where
   none : (k : ℕ) → suc (suc k) ≤ 1 → ⊥
   none k e = omega (arith, e)
 
+field_is_frame : {R : Type 0} → (T : Table R) (p : Place R) (x : Bytes) (body : FieldTree) → IsFrame (field_frame T p x body)
+field_is_frame T p x (ValueOf e) = λ i l. refl
+field_is_frame {R} T p x (MethodOf q) = first_hole {R = R} (SetMethod x) End refl
+field_is_frame T p x (AliasOf y e place) = λ i l. refl
+
 pub pend_are_frames : {R : Type 0} → (T : Table R) (p : Place R) (pending : PendingForm R) → AreFrames (pending_frames T p pending)
 pend_are_frames {R} T p (PendingThen is) = (first_hole {R = R} Then End refl, tt)
 pend_are_frames {R} T p (PendingLet x bs is) = (first_hole {R = R} Let End refl, tt)
+pend_are_frames T p (PendingObject flags done x other fields) = (literal_frame T done flags x other (layout_of fields) (fields_at T p done fields), tt)
+pend_are_frames {R} T p (PendingVar x bs is) = (first_hole {R = R} Var End refl, tt)
 pend_are_frames {R} T p (PendingIf b arms last) = (first_hole {R = R} If End refl, tt)
 pend_are_frames T p (PendingChain op e links) = frames_append _ _ (links_are_frames T p links) (first_hole (linked_kind op) (Part (expr_at T p e) End) (linked_operand _ op), tt)
 pend_are_frames T p (PendingRight v op) = (λ i l. refl, tt)
 pend_are_frames T p (PendingHead s ss) = frames_append _ _ (suffixes_are_frames T p ss) (suffix_is_frame T p s, tt)
 pend_are_frames T p (PendingArguments callee done es) = (callee_is_frame T callee done (exprs_at T p es), tt)
 pend_are_frames {R} T p PendingRaise = (first_hole {R = R} Raise End refl, tt)
+pend_are_frames {R} T p (PendingWatch e) = (first_hole {R = R} Watch End refl, tt)
+pend_are_frames {R} T p (PendingTesting o c e) = (first_hole {R = R} (Testing o c) End refl, tt)
 pend_are_frames {R} T p PendingCalled = (first_hole {R = R} Called End refl, tt)
+pend_are_frames {R} T p (PendingWithin o m) = (first_hole {R = R} (Within o m) End refl, tt)
 pend_are_frames {R} T p (PendingTry arms last) = (first_hole {R = R} Try End refl, tt)
 pend_are_frames {R} T p (PendingGuard e b arms last) = (first_hole {R = R} (Choosing e) End refl, tt)
 pend_are_frames {R} T p (PendingLast b) = (first_hole {R = R} Finally End refl, tt)
 pend_are_frames {R} T p (PendingKept k) = (first_hole {R = R} Finishing End refl, tt)
+pend_are_frames {R} T p (PendingAssign x) = (first_hole {R = R} Assign End refl, tt)
+pend_are_frames {R} T p (PendingField x body) = (field_is_frame T p x body, tt)
 pend_are_frames {R} T p (PendingLoop b) = (first_hole {R = R} Looping End refl, tt)
 pend_are_frames {R} T p (PendingFirst x e b) = (first_hole {R = R} For End refl, tt)
 pend_are_frames T p (PendingTo first x b) = (λ i l. below_two i l, tt)
 pend_are_frames {R} T p (PendingCount i n x b) = (first_hole {R = R} (Counting i n) End refl, tt)
+pend_are_frames {R} T p (PendingForeach x b) = (first_hole {R = R} Foreach End refl, tt)
+pend_are_frames {R} T p (PendingEach r i n x b) = (first_hole {R = R} (EachIn r i n) End refl, tt)
 
 pub are_frames : {R : Type 0} → (T : Table R) (fs : List (TreeFrame R)) → AreFrames (frames_of T fs)
 are_frames T [] = tt
@@ -118,8 +140,8 @@ to_here eq T a s fs t focus h = step_plug eq a s (frames_of T fs) t (focus_term 
 pub to_pushed : {R : Type 0} → (eq : R → R → Bool) (T : Table R) (a : ℕ) (s : Self R) (fs : List (TreeFrame R)) (t : Term R) (p : Place R) (pending : PendingForm R) (focus : TreeFocus R) → found_in eq T a s fs t ≡ Next (plug (pending_frames T p pending) (focus_term T focus)) → Moves eq T a s (plug (frames_of T fs) t) (tree_moved Stepped (push p pending fs) focus)
 to_pushed eq T a s fs t p pending focus h = stepped eq T a s fs t _ (tree_moved Stepped (push p pending fs) focus) h (record { tag_is = refl; leads = pushed T fs p pending focus _ refl })
 
-pub asks : {R : Type 0} → (eq : R → R → Bool) (T : Table R) (a : ℕ) (s : Self R) (fs : List (TreeFrame R)) (t : Term R) (op : PlainOperation R) (focus : TreeFocus R) → found_in eq T a s fs t ≡ Needs (read_operation T op) [] → Moves eq T a s (plug (frames_of T fs) t) (tree_moved (Asks op) fs focus)
-asks eq T a s fs t op focus h = needs_plug eq a s (frames_of T fs) t (read_operation T op) [] (are_frames T fs) h ∙ ap (Needs (read_operation T op)) (append-nil (frames_of T fs))
+pub asks : {R : Type 0} → (eq : R → R → Bool) (T : Table R) (a : ℕ) (s : Self R) (fs : List (TreeFrame R)) (t : Term R) (op : PlainOperation R) (after : TreeAfter R) → found_in eq T a s fs t ≡ Needs (read_operation T op (scope_after T after)) [] → Moves eq T a s (plug (frames_of T fs) t) (tree_moved (Asks op) fs (TreeAct op after))
+asks eq T a s fs t op after h = (after, refl, needs_plug eq a s (frames_of T fs) t (read_operation T op (scope_after T after)) [] (are_frames T fs) h ∙ ap (Needs (read_operation T op (scope_after T after))) (append-nil (frames_of T fs)))
 
 -- ---- chains
 
@@ -186,6 +208,11 @@ callee_passes T (ToCall f) done after = (refl, tt)
 callee_passes T (ToBuiltin row) done after = (refl, tt)
 callee_passes T ToArray done after = (refl, tt)
 callee_passes T ToIndex done after = (refl, tt)
+callee_passes T ToClone done after = (refl, tt)
+callee_passes T ToSetIndex done after = (refl, tt)
+callee_passes T (ToSetValue x) done after = (refl, tt)
+callee_passes T (ToSetAlias x y) done after = (refl, tt)
+callee_passes T ToRedirect done after = (refl, tt)
 callee_passes T (ToInvoke x) done after = (refl, tt)
 
 pub chain_passes : {R : Type 0} → (T : Table R) (p : Place R) (op : Operator) (e : ExprTree) (links : LinkTrees) → LetPass (pending_frames T p (PendingChain op e links))
@@ -196,3 +223,13 @@ head_passes T p s ss = letpass_append (suffixes_around T p ss) _ (suffixes_pass 
 
 pub args_pass : {R : Type 0} → (T : Table R) (p : Place R) (callee : Callee R) (done : List (PlainValue R)) (es : ExprTrees) → LetPass (pending_frames T p (PendingArguments callee done es))
 args_pass T p callee done es = callee_passes T callee done (exprs_at T p es)
+
+pub field_passes : {R : Type 0} → (T : Table R) (p : Place R) (x : Bytes) (body : FieldTree) → LetPass (field_frame T p x body ∷ [])
+field_passes T p x (ValueOf e) = (refl, tt)
+field_passes T p x (MethodOf q) = (refl, tt)
+field_passes T p x (AliasOf y e place) = (refl, tt)
+
+pub field_read : {R : Type 0} → (T : Table R) (p : Place R) (x : Bytes) (body : FieldTree) (t : Term R) → read (env_at T p) (open_field (writer_at T p) (outside_at T p) (names_at p) x t body) ≡ fill (field_frame T p x body) (read (env_at T p) t)
+field_read T p x (ValueOf e) t = refl
+field_read T p x (MethodOf q) t = refl
+field_read T p x (AliasOf y e place) t = refl

@@ -1,79 +1,45 @@
 -- A part that begins to run, and calls whose arguments are there.
-use Rattle.std.specs.Prelude.{Bool, List, None, Option, Some, [], codes, false, if◌then◌else◌, length, nat_lt, refl, slice_get, suc, true, ℕ, ◌&&◌, ◌==◌, ◌∷◌, ◌≡◌}
-use Rattle.std.proofs.Common.{subst, ap, sym, ◌∙◌}
-use Rattle.obq_base.specs.Tree.{ALink, ASuffix, AnExpr, ApplySuffix, ExprTrees, IndexSuffix, InvokeSuffix, LinkTrees, NoExprs, NoLinks, NoSuffixes, SelectSuffix, SuffixTree, SuffixTrees}
+use Rattle.std.specs.Prelude.{Bool, List, None, Option, Some, [], codes, false, if◌then◌else◌, length, nat_lt, refl, slice_get, true, ℕ, ◌&&◌, ◌==◌, ◌∷◌, ◌≡◌}
+use Rattle.std.proofs.Common.{ap, subst, sym, ◌∙◌}
+use Rattle.obq_base.specs.Tree.{ASuffix, AnExpr, ExprTrees, NoExprs, NoSuffixes, SuffixTrees}
 use Rattle.obq_base.specs.declared.code.CodeNo.{CodeNo}
-use Rattle.obq_base.specs.declared.trees.Operator.{Operator}
+use Rattle.obq_base.specs.declared.limits.TheConstants.{ARRAY_LIMIT}
 use Rattle.obq_model.specs.Builtins.{arity_of_builtin}
 use Rattle.obq_model.specs.Exceptions.{arity, array_limit, call_limit, raise}
 use Rattle.obq_model.specs.Opened.{builtin_at}
-use Rattle.obq_model.specs.Step.{CallMethod, Found, Itself, Needs, New, Next, Self, activations_at, apply, call, call_value, fill, is_call_limit, plug, row, self_at, values_before}
+use Rattle.obq_model.specs.Step.{CallMethod, Found, Itself, Needs, New, Next, Self, activations_at, apply, call, call_value, clone, fill, is_call_limit, plug, row, self_at, values_before}
 use Rattle.obq_model.specs.Store.{ArrayCell}
-use Rattle.obq_model.specs.Terms.{Apply, Array, Bytes, Call, Condition, End, Engine, Form, Index, Invoke, MakeArray, Object, Part, Parts, Term, Variable, Writer}
-use Rattle.obq_model.proofs.Plug.{activations_append, operands}
+use Rattle.obq_model.specs.Terms.{Apply, Array, Bytes, Call, Clone, Condition, End, Engine, Form, Index, Invoke, MakeArray, Object, Part, Parts, Redirect, SetAlias, SetIndex, SetValue, Term, Variable, Writer}
+use Rattle.obq_model.proofs.Plug.{operands}
 use Rattle.obq_windows.specs.Meanings.{Moves}
-use Rattle.obq_windows.specs.Trees.{Beyond, Callee, Does, ExprTask, Gives, PendingArguments, PendingCalled, PendingChain, PendingCount, PendingFirst, PendingForm, PendingGuard, PendingHead, PendingIf, PendingKept, PendingLast, PendingLet, PendingLoop, PendingRaise, PendingRight, PendingThen, PendingTo, PendingTry, Place, PlainInvoke, PlainNewArray, PlainResult, Raises, Silent, Stepped, ToArray, ToBuiltin, ToCall, ToIndex, ToInvoke, TreeFrame, TreeMoved, TreeRun, TreeValue, applied, array_made, begin_args, call_code, call_plain, callee_frame, count_activations, expr_at, exprs_at, finish_args, frames_of, indexed, invoked, is_activation, link_frame, links_around, pending_frames, push, suffix_frame, suffixes_around, tree_moved, tree_raises, tree_result, with_suffixes}
-use Rattle.obq_windows.specs.Values.{ClosureValue, ExceptionValue, IntValue, IsMadeTable, LocationValue, OkayValue, PlainValue, Table, TextValue, ThreadValue, TruthValue, closure_of, proc_named, proc_of, read_all, read_value, read_values}
+use Rattle.obq_windows.specs.Moves.{begin_args, call_code, call_plain, clone_tree, count_activations, finish_args, tree_result, with_suffixes}
+use Rattle.obq_windows.specs.Places.{Place}
+use Rattle.obq_windows.specs.Results.{Does, Gives, PlainResult, Raises, alias_set, applied, array_made, indexed, invoked, item_set, objects_in, redirected, value_set}
+use Rattle.obq_windows.specs.Trees.{Callee, ExprTask, PendingArguments, PlainCloning, PlainInvoke, PlainNewArray, PlainRunEngine, Silent, Stepped, ToArray, ToBuiltin, ToCall, ToClone, ToIndex, ToInvoke, ToRedirect, ToSetAlias, ToSetIndex, ToSetValue, TreeAct, TreeFrame, TreeHere, TreeMoved, TreeRun, TreeValue, callee_frame, expr_at, exprs_at, frames_of, push, tree_moved, tree_raises}
+use Rattle.obq_windows.specs.Values.{ClosureValue, ExceptionValue, IntValue, IsMadeTable, LocationValue, OkayValue, PlainValue, Table, TextValue, ThreadValue, TruthValue, closure_of, proc_named, proc_of, read_all, read_value, read_values, tree_params}
+use Rattle.obq_windows.proofs.Acts.{act_from}
 use Rattle.obq_windows.proofs.Around.{asks, found_in, pushed, silent, to_here}
-use Rattle.obq_windows.proofs.Calls.{callable, entered_right}
-use Rattle.obq_windows.proofs.Results.{ResultIs, closure_cases}
 use Rattle.obq_windows.proofs.BuiltIns.{applied_is}
-use Rattle.obq_base.specs.declared.limits.TheConstants.{ARRAY_LIMIT}
+use Rattle.obq_windows.proofs.Calls.{callable, entered_right, length_read}
+use Rattle.obq_windows.proofs.Counts.{counted}
+use Rattle.obq_windows.proofs.Results.{ResultIs, closure_cases}
+use Rattle.obq_windows.proofs.Updates.{alias_set_is, cloned_is, item_set_is, redirected_is, value_set_is}
 
 -- the same of a term that is spelled in another way
 pub of_term : {R : Type 0} → (eq : R → R → Bool) (T : Table R) (a : ℕ) (s : Self R) (t u : Term R) (m : TreeMoved R) → t ≡ u → Moves eq T a s u m → Moves eq T a s t m
 of_term {R} eq T a s t u m e h = subst (λ (z : Term R). Moves eq T a s z m) (sym e) h
 
--- ---- activations
-
-count_links : {R : Type 0} → (T : Table R) (a : ℕ) (p : Place R) (links : LinkTrees) → activations_at a (links_around T p links) ≡ a
-count_links T a p NoLinks = refl
-count_links {R} T a p (ALink op e place links) = activations_append a (links_around T p links) (link_frame T p op e ∷ []) ∙ one op (activations_at a (links_around T p links)) ∙ count_links T a p links where
-  one : (op : Operator) (n : ℕ) → activations_at n (link_frame T p op e ∷ []) ≡ n
-  one Operator.Orif n = refl
-  one Operator.Andif n = refl
-  one op n = refl
-
-one_suffix : {R : Type 0} → (T : Table R) (n : ℕ) (p : Place R) (s : SuffixTree) → activations_at n (suffix_frame T p s ∷ []) ≡ n
-one_suffix T n p (ApplySuffix es place) = refl
-one_suffix T n p (SelectSuffix x place) = refl
-one_suffix T n p (InvokeSuffix x es place) = refl
-one_suffix T n p (IndexSuffix e place) = refl
-
-count_suffixes_around : {R : Type 0} → (T : Table R) (a : ℕ) (p : Place R) (ss : SuffixTrees) → activations_at a (suffixes_around T p ss) ≡ a
-count_suffixes_around T a p NoSuffixes = refl
-count_suffixes_around T a p (ASuffix s ss) = activations_append a (suffixes_around T p ss) (suffix_frame T p s ∷ []) ∙ one_suffix T (activations_at a (suffixes_around T p ss)) p s ∙ count_suffixes_around T a p ss
-
-count_pend : {R : Type 0} → (T : Table R) (a : ℕ) (p : Place R) (pending : PendingForm R) → activations_at a (pending_frames T p pending) ≡ (if is_activation pending then suc a else a)
-count_pend T a p (PendingThen is) = refl
-count_pend T a p (PendingLet x bs is) = refl
-count_pend T a p (PendingIf b arms last) = refl
-count_pend T a p (PendingChain op e links) = count_links T a p (ALink op e 0 links)
-count_pend T a p (PendingRight v op) = refl
-count_pend T a p (PendingHead s ss) = count_suffixes_around T a p (ASuffix s ss)
-count_pend T a p (PendingArguments (ToCall f) done es) = refl
-count_pend T a p (PendingArguments (ToBuiltin row) done es) = refl
-count_pend T a p (PendingArguments ToArray done es) = refl
-count_pend T a p (PendingArguments ToIndex done es) = refl
-count_pend T a p (PendingArguments (ToInvoke x) done es) = refl
-count_pend T a p PendingRaise = refl
-count_pend T a p PendingCalled = refl
-count_pend T a p (PendingTry arms last) = refl
-count_pend T a p (PendingGuard e b arms last) = refl
-count_pend T a p (PendingLast b) = refl
-count_pend T a p (PendingKept k) = refl
-count_pend T a p (PendingLoop b) = refl
-count_pend T a p (PendingFirst x e b) = refl
-count_pend T a p (PendingTo first x b) = refl
-count_pend T a p (PendingCount i n x b) = refl
-
-pub counted : {R : Type 0} → (T : Table R) (a : ℕ) (fs : List (TreeFrame R)) → activations_at a (frames_of T fs) ≡ count_activations a fs
-counted T a [] = refl
-counted T a (f ∷ fs) =
-    activations_append a (frames_of T fs) (pending_frames T f.place f.pending) ∙ count_pend T (activations_at a (frames_of T fs)) f.place f.pending
-    ∙ ap (λ n. if is_activation f.pending then suc n else n) (counted T a fs)
-
 -- ---- calls
+
+engine_arity : {R : Type 0} → (eq : R → R → Bool) (T : Table R) (a : ℕ) (s : Self R) (fs : List (TreeFrame R)) (t : Term R) → found_in eq T a s fs t ≡ (if is_call_limit (activations_at a (frames_of T fs)) then Next call_limit else Next arity)
+    → Moves eq T a s (plug (frames_of T fs) t) (if is_call_limit (count_activations a fs) then tree_moved Stepped fs (tree_raises (codes "call_limit")) else tree_moved Stepped fs (tree_raises (codes "arity")))
+engine_arity {R} eq T a s fs t h = at (is_call_limit (count_activations a fs)) refl where
+  found : (b : Bool) → is_call_limit (count_activations a fs) ≡ b → found_in eq T a s fs t ≡ (if b then Next call_limit else Next arity)
+  found b e = h ∙ ap (λ (n : ℕ). if is_call_limit n then Next call_limit else Next arity) (counted T a fs) ∙ ap (λ (c : Bool). if c then Next call_limit else Next arity) e
+
+  at : (b : Bool) → is_call_limit (count_activations a fs) ≡ b → Moves eq T a s (plug (frames_of T fs) t) (if b then tree_moved Stepped fs (tree_raises (codes "call_limit")) else tree_moved Stepped fs (tree_raises (codes "arity")))
+  at true e = to_here eq T a s fs t (tree_raises (codes "call_limit")) (found true e)
+  at false e = to_here eq T a s fs t (tree_raises (codes "arity")) (found false e)
 
 pub call_right : {R : Type 0} → (eq : R → R → Bool) (T : Table R) (a : ℕ) (s : Self R) → IsMadeTable T → (fs : List (TreeFrame R)) (t : Term R) (f : PlainValue R) (p : Place R) (vs : List (PlainValue R))
     → found_in eq T a s fs t ≡ call (activations_at a (frames_of T fs)) (read_value T f) (read_all T vs) → Moves eq T a s (plug (frames_of T fs) t) (call_plain T (count_activations a fs) f p vs fs)
@@ -91,7 +57,9 @@ call_right {R} eq T a s w fs t (ClosureValue thread count group index cs) p vs h
   at : (b : Bool) → is_call_limit (count_activations a fs) ≡ b → Moves eq T a s (plug (frames_of T fs) t) (if b then tree_moved Stepped fs (tree_raises (codes "call_limit")) else call_code T thread count group cs (slice_get group index) p vs fs)
   at true e = to_here eq T a s fs t (tree_raises (codes "call_limit")) (found true e)
   at false e = by_code (slice_get group index) (found false e)
-call_right eq T a s w fs t (LocationValue Engine e) p vs h = tt
+call_right {R} eq T a s w fs t (LocationValue Engine e) p [] h = engine_arity eq T a s fs t h
+call_right eq T a s w fs t (LocationValue Engine e) p (f ∷ []) h = act_from eq T w a s fs t (PlainRunEngine e f) TreeHere h
+call_right {R} eq T a s w fs t (LocationValue Engine e) p (f ∷ z ∷ vs) h = engine_arity eq T a s fs t h
 call_right eq T a s w fs t (LocationValue Object e) p vs h = to_here eq T a s fs t (tree_raises (codes "type")) h
 call_right eq T a s w fs t (LocationValue Array e) p vs h = to_here eq T a s fs t (tree_raises (codes "type")) h
 call_right eq T a s w fs t (LocationValue Variable e) p vs h = to_here eq T a s fs t (tree_raises (codes "type")) h
@@ -107,12 +75,7 @@ call_right eq T a s w fs t (ThreadValue n) p vs h = to_here eq T a s fs t (tree_
 pub result_right : {R : Type 0} → (eq : R → R → Bool) (T : Table R) (a : ℕ) (s : Self R) (fs : List (TreeFrame R)) (t : Term R) (found : Found R) (r : PlainResult R) → found_in eq T a s fs t ≡ found → ResultIs T found r → Moves eq T a s (plug (frames_of T fs) t) (tree_result r fs)
 result_right eq T a s fs t found (Gives v) e h = to_here eq T a s fs t (TreeValue v) (e ∙ h)
 result_right eq T a s fs t found (Raises x) e h = to_here eq T a s fs t (tree_raises x) (e ∙ h)
-result_right eq T a s fs t found (Does op) e h = asks eq T a s fs t op (TreeValue OkayValue) (e ∙ h)
-result_right eq T a s fs t found Beyond e h = tt
-
-length_read : {R : Type 0} → (T : Table R) (vs : List (PlainValue R)) → length (read_all T vs) ≡ length vs
-length_read T [] = refl
-length_read T (v ∷ vs) = ap suc (length_read T vs)
+result_right eq T a s fs t found (Does op) e h = asks eq T a s fs t op TreeHere (e ∙ h)
 
 -- a call's form, whose first arguments are values
 abbrev pub callee_form : {R : Type 0} → Table R → Callee R → List (PlainValue R) → Parts R → Term R
@@ -120,6 +83,11 @@ callee_form T (ToCall f) done after = Form Call (values_before (read_value T f �
 callee_form T (ToBuiltin row) done after = Form (Apply (builtin_at row)) (values_before (read_all T done) after)
 callee_form T ToArray done after = Form MakeArray (values_before (read_all T done) after)
 callee_form T ToIndex done after = Form Index (values_before (read_all T done) after)
+callee_form T ToClone done after = Form Clone (values_before (read_all T done) after)
+callee_form T ToSetIndex done after = Form SetIndex (values_before (read_all T done) after)
+callee_form T (ToSetValue x) done after = Form (SetValue x) (values_before (read_all T done) after)
+callee_form T (ToSetAlias x y) done after = Form (SetAlias x y) (values_before (read_all T done) after)
+callee_form T ToRedirect done after = Form Redirect (values_before (read_all T done) after)
 callee_form T (ToInvoke x) done after = Form (Invoke x) (values_before (read_all T done) after)
 
 array_made_is : {R : Type 0} → (eq : R → R → Bool) (T : Table R) (a : ℕ) (s : Self R) (vs : List (PlainValue R)) → ResultIs T (row eq a s MakeArray (read_all T vs) End) (array_made vs)
@@ -177,6 +145,10 @@ invoked_is {R} eq T a s x (LocationValue Object o ∷ vs) = at (is_call_limit a)
   at true = refl
   at false = refl
 
+clone_right : {R : Type 0} → (eq : R → R → Bool) (T : Table R) (a : ℕ) (s : Self R) (fs : List (TreeFrame R)) (t : Term R) (o : Option (List R)) → found_in eq T a s fs t ≡ Next (clone o) → Moves eq T a s (plug (frames_of T fs) t) (clone_tree o fs)
+clone_right eq T a s fs t None h = to_here eq T a s fs t (tree_raises (codes "type")) h
+clone_right eq T a s fs t (Some os) h = to_here eq T a s fs t (TreeAct (PlainCloning None [] os) TreeHere) h
+
 finish_right : {R : Type 0} → (eq : R → R → Bool) (T : Table R) (a : ℕ) (s : Self R) → IsMadeTable T → (fs : List (TreeFrame R)) (callee : Callee R) (p : Place R) (vs : List (PlainValue R)) → Moves eq T a s (plug (frames_of T fs) (callee_form T callee vs End)) (finish_args T (count_activations a fs) callee p vs fs)
 finish_right eq T a s w fs (ToCall f) p vs =
     call_right eq T a s w fs _ f p vs (operands eq (activations_at a (frames_of T fs)) (self_at s (frames_of T fs)) Call [] (read_value T f ∷ read_all T vs) End (λ i l. refl))
@@ -191,13 +163,23 @@ finish_right {R} eq T a s w fs (ToBuiltin r) p vs = at (length vs == arity_of_bu
       ∙ ap (λ (c : Bool). if c then apply (builtin_at r) (read_all T vs) else Next arity) e
 
   at : (b : Bool) → (length vs == arity_of_builtin (builtin_at r)) ≡ b
-      → Moves eq T a s (plug (frames_of T fs) (Form (Apply (builtin_at r)) (values_before (read_all T vs) End))) (if b then tree_result (applied (builtin_at r) vs) fs else tree_moved Stepped fs (tree_raises (codes "arity")))
-  at true e = result_right eq T a s fs _ _ (applied (builtin_at r) vs) (found true e) (applied_is T (builtin_at r) vs)
+      → Moves eq T a s (plug (frames_of T fs) (Form (Apply (builtin_at r)) (values_before (read_all T vs) End))) (if b then tree_result (applied (tree_params T) (builtin_at r) vs) fs else tree_moved Stepped fs (tree_raises (codes "arity")))
+  at true e = result_right eq T a s fs _ _ (applied (tree_params T) (builtin_at r) vs) (found true e) (applied_is T w (builtin_at r) vs e)
   at false e = to_here eq T a s fs _ (tree_raises (codes "arity")) (found false e)
 finish_right eq T a s w fs ToArray p vs =
     result_right eq T a s fs _ _ (array_made vs) (operands eq (activations_at a (frames_of T fs)) (self_at s (frames_of T fs)) MakeArray [] (read_all T vs) End (λ i l. refl)) (array_made_is eq T (activations_at a (frames_of T fs)) (self_at s (frames_of T fs)) vs)
 finish_right eq T a s w fs ToIndex p vs =
     result_right eq T a s fs _ _ (indexed vs) (operands eq (activations_at a (frames_of T fs)) (self_at s (frames_of T fs)) Index [] (read_all T vs) End (λ i l. refl)) (indexed_is eq T (activations_at a (frames_of T fs)) (self_at s (frames_of T fs)) vs)
+finish_right eq T a s w fs ToSetIndex p vs =
+    result_right eq T a s fs _ _ (item_set vs) (operands eq (activations_at a (frames_of T fs)) (self_at s (frames_of T fs)) SetIndex [] (read_all T vs) End (λ i l. refl)) (item_set_is eq T (activations_at a (frames_of T fs)) (self_at s (frames_of T fs)) vs)
+finish_right eq T a s w fs (ToSetValue x) p vs =
+    result_right eq T a s fs _ _ (value_set x vs) (operands eq (activations_at a (frames_of T fs)) (self_at s (frames_of T fs)) (SetValue x) [] (read_all T vs) End (λ i l. refl)) (value_set_is eq T (activations_at a (frames_of T fs)) (self_at s (frames_of T fs)) x vs)
+finish_right eq T a s w fs (ToSetAlias x y) p vs =
+    result_right eq T a s fs _ _ (alias_set x y vs) (operands eq (activations_at a (frames_of T fs)) (self_at s (frames_of T fs)) (SetAlias x y) [] (read_all T vs) End (λ i l. refl)) (alias_set_is eq T (activations_at a (frames_of T fs)) (self_at s (frames_of T fs)) x y vs)
+finish_right eq T a s w fs ToRedirect p vs =
+    result_right eq T a s fs _ _ (redirected vs) (operands eq (activations_at a (frames_of T fs)) (self_at s (frames_of T fs)) Redirect [] (read_all T vs) End (λ i l. refl)) (redirected_is eq T (activations_at a (frames_of T fs)) (self_at s (frames_of T fs)) vs)
+finish_right eq T a s w fs ToClone p vs =
+    clone_right eq T a s fs _ (objects_in vs) (operands eq (activations_at a (frames_of T fs)) (self_at s (frames_of T fs)) Clone [] (read_all T vs) End (λ i l. refl) ∙ cloned_is eq T (activations_at a (frames_of T fs)) (self_at s (frames_of T fs)) vs)
 finish_right {R} eq T a s w fs (ToInvoke x) p vs =
     subst (λ (n : ℕ). Moves eq T a s (plug (frames_of T fs) (Form (Invoke x) (values_before (read_all T vs) End))) (tree_result (invoked n x vs) fs)) (counted T a fs)
     (result_right eq T a s fs _ _ (invoked (activations_at a (frames_of T fs)) x vs) (operands eq (activations_at a (frames_of T fs)) (self_at s (frames_of T fs)) (Invoke x) [] (read_all T vs) End (λ i l. refl))
@@ -218,6 +200,11 @@ args_right {R} eq T a s w fs callee p done (AnExpr e es) =
       filled (ToBuiltin row) = refl
       filled ToArray = refl
       filled ToIndex = refl
+      filled ToClone = refl
+      filled ToSetIndex = refl
+      filled (ToSetValue x) = refl
+      filled (ToSetAlias x y) = refl
+      filled ToRedirect = refl
       filled (ToInvoke x) = refl
 
 -- inside of further suffixes

@@ -1,33 +1,36 @@
 -- A closure that is made: what it captures is what its body reads.
 use Rattle.std.specs.Prelude.{Bool, List, None, Option, Some, [], bytes_eq, codes, drop, false, if◌then◌else◌, is_some, nat_lt, option_map, refl, suc, true, ℕ, ◌++◌, ◌||◌, ◌∷◌, ◌≡◌}
-use Rattle.std.proofs.lemmas.Slice.Eq.{bytes_eq-Decides}
 use Rattle.std.proofs.Common.{ap, sym, ◌∙◌}
-use Rattle.obq_base.specs.Tree.{AProc, ARecBind, AnItem, ItemTrees, LetRecItem, NoItems, NoRecBinds, ProcTree, ProcedureTree, RecBindTrees}
+use Rattle.std.proofs.lemmas.Slice.Eq.{bytes_eq-Decides}
+use Rattle.obq_base.specs.Tree.{AProc, ARecBind, AnItem, BlockTree, ItemTrees, LetRecItem, NoItems, NoRecBinds, ProcTree, ProcedureTree, RecBindTrees}
 use Rattle.obq_base.specs.declared.code.CodeNo.{CodeNo}
+use Rattle.obq_base.specs.declared.limits.TheConstants.{CLOSURE_LIMIT}
 use Rattle.obq_base.specs.declared.occurrences.Occurrence.{Occurrence}
 use Rattle.obq_model.specs.Depth.{deepest_of, is_too_deep}
 use Rattle.obq_model.specs.Draft.{captured_by, captured_by_group}
-use Rattle.obq_model.specs.Exceptions.{closure_limit}
+use Rattle.obq_model.specs.Exceptions.{closure_limit, wrong_type}
 use Rattle.obq_model.specs.Occurrences.{free_members, free_procedure, member_names}
 use Rattle.obq_model.specs.Opened.{open_block, open_items, open_members}
 use Rattle.obq_model.specs.Procedures.{AreMembers, Proc}
 use Rattle.obq_model.specs.Put.{among, put_members}
 use Rattle.obq_model.specs.Reading.{Env, hide, or_some, read, read_parts, with_all, with_members}
 use Rattle.obq_model.specs.Scopes.{Outside, captured_of, inside, is_covered, last_place, last_place_from}
-use Rattle.obq_model.specs.Step.{Next, Self, plug}
-use Rattle.obq_model.specs.Terms.{Bytes, Closure, Const, Member, Part, Parts, Term, Under, Value}
+use Rattle.obq_model.specs.Step.{Needs, Next, Self, Set, activations_at, find, plug, self_at}
+use Rattle.obq_model.specs.Terms.{Array, Bytes, Closure, Condition, Const, End, Engine, Form, IsMethod, Loc, Member, Object, Part, Parts, SetMethod, Term, Under, Value, Variable, Writer}
 use Rattle.obq_model.proofs.Among.{bytes_sym, true_false}
 use Rattle.obq_model.proofs.Occurring.{Only, captured_covered, only_block}
 use Rattle.obq_model.proofs.Places.{among_place, or_else, place_found}
 use Rattle.obq_model.proofs.Substitution.{agree_read, members_read}
 use Rattle.obq_windows.specs.Meanings.{Moves}
-use Rattle.obq_windows.specs.Trees.{Bound, IsGroupHint, IsProcHint, ItemsTask, Place, Stepped, Tag, TreeFrame, TreeRun, TreeValue, begin_letrec, begin_proc, begin_rest, bound_names, captured_values, env_at, expr_at, frames_of, items_at, last_bound, letrec_parts, member_at, member_values, names_at, or_this, outside_at, proc_group, proc_outside, tree_closed, tree_made, tree_moved, tree_raises, value_in, value_of, value_or_okay, with_bound, writer_at}
-use Rattle.obq_windows.specs.Values.{ClosureValue, IsMadeTable, OkayValue, PlainValue, PlainValues, Table, captured_at, captured_env, closure_of, group_of, member_part, no_env, padded, proc_named, proc_of, read_value, read_values}
-use Rattle.obq_windows.proofs.Around.{Starts, here, stepped, to_here}
+use Rattle.obq_windows.specs.Moves.{IsGroupHint, IsProcHint, begin_letrec, begin_proc, begin_rest, captured_values, letrec_parts, member_values, method_tree, set_method_tree, tree_closed, value_or_okay}
+use Rattle.obq_windows.specs.Places.{Bound, Place, bound_names, env_at, last_bound, member_at, or_this, outside_at, proc_group, proc_outside, value_in, value_of, with_bound, writer_at}
+use Rattle.obq_windows.specs.Trees.{Asks, ItemsTask, PlainSetMethod, Stepped, Tag, TreeAct, TreeFrame, TreeHere, TreeMethod, TreeRun, TreeValue, body_at, expr_at, frames_of, items_at, method_of, names_at, term_of, tree_made, tree_moved, tree_raises}
+use Rattle.obq_windows.specs.Values.{ClosureValue, ExceptionValue, IntValue, IsMadeTable, LocationValue, OkayValue, PlainValue, PlainValues, Table, TextValue, ThreadValue, TruthValue, captured_at, captured_env, closure_of, group_of, member_part, no_env, padded, proc_named, proc_of, read_value, read_values}
+use Rattle.obq_windows.proofs.Around.{Starts, asks, here, stepped, to_here}
 use Rattle.obq_windows.proofs.Calls.{members_none, members_some}
 use Rattle.obq_windows.proofs.Envs.{fun_eq, others}
 use Rattle.obq_windows.proofs.Lists.{behind_here, item_here}
-use Rattle.obq_base.specs.declared.limits.TheConstants.{CLOSURE_LIMIT}
+use Rattle.obq_windows.proofs.Results.{closure_cases}
 
 -- ---- what is covered has a value
 
@@ -92,6 +95,14 @@ closing_agrees {R} T p members us params t h = agree_read t _ _ (λ x o. at x (a
       ap (λ (z : Option (Value R)). if among x params then None else (if among x members then None else z))
       (value x (sym (ap (λ c. c || (among x members || among x (captured_of (outside_at T p) (names_at p) us))) e ∙ ap (λ c. c || among x (captured_of (outside_at T p) (names_at p) us)) f) ∙ o))
 
+-- the closure of a procedure, as what it is made of
+pub made_read : {R : Type 0} → (T : Table R) (number : CodeNo) (numbers : List CodeNo) (p : Place R) (params : List Bytes) (b : BlockTree) (place : ℕ) → IsProcHint T (number ∷ numbers) p (AProc params b place)
+    → closure_of T (read_values T (captured_values T p (captured_by (outside_at T p) (names_at p) (AProc params b place)))) (T.procs number)
+    ≡ Closure params (read (hide params (env_at T p)) (open_block (writer_at T p) (inside (outside_at T p) [] (captured_by (outside_at T p) (names_at p) (AProc params b place))) params b))
+made_read {R} T number numbers p params b place h =
+    ap (λ (o : Option Proc). closure_of T (read_values T (captured_values T p (captured_by (outside_at T p) (names_at p) (AProc params b place)))) o) h
+    ∙ sym (ap (λ (u : Term R). Closure params u) (closing_agrees T p [] (free_procedure [] (AProc params b place)) params (open_block (writer_at T p) (inside (outside_at T p) [] (captured_by (outside_at T p) (names_at p) (AProc params b place))) params b) (only_block (writer_at T p) (inside (outside_at T p) [] (captured_by (outside_at T p) (names_at p) (AProc params b place))) params b)))
+
 pub proc_begins : {R : Type 0} → (eq : R → R → Bool) (T : Table R) (a : ℕ) (s : Self R) (thread count : ℕ) (numbers : List CodeNo) (p : Place R) (q : ProcedureTree) (fs : List (TreeFrame R)) → IsProcHint T numbers p q
     → Moves eq T a s (plug (frames_of T fs) (expr_at T p (ProcTree q))) (begin_proc T thread count numbers p q fs)
 proc_begins eq T a s thread count [] p q fs h = absurd h
@@ -103,8 +114,7 @@ proc_begins {R} eq T a s thread count (number ∷ numbers) p (AProc params b pla
   at false e =
       to_here eq T a s fs _ (TreeValue (ClosureValue thread count (number ∷ []) 0 (captured_values T p (captured_by (outside_at T p) (names_at p) (AProc params b place)))))
       (ap (λ (d : Bool). Next (if d then closure_limit else Const (Closure params (read (hide params (env_at T p)) (open_block (writer_at T p) (inside (outside_at T p) [] (captured_by (outside_at T p) (names_at p) (AProc params b place))) params b))))) e
-      ∙ ap (λ (u : Term R). Next (Const (Closure params u))) (closing_agrees T p [] (free_procedure [] (AProc params b place)) params (open_block (writer_at T p) (inside (outside_at T p) [] (captured_by (outside_at T p) (names_at p) (AProc params b place))) params b) (only_block (writer_at T p) (inside (outside_at T p) [] (captured_by (outside_at T p) (names_at p) (AProc params b place))) params b))
-      ∙ sym (ap (λ (o : Option Proc). Next (Const (closure_of T (read_values T (captured_values T p (captured_by (outside_at T p) (names_at p) (AProc params b place)))) o))) h))
+      ∙ sym (ap (λ (m : Value R). Next (Const m)) (made_read T number numbers p params b place h)))
 
 -- ---- a group
 
@@ -217,3 +227,38 @@ letrec_begins {R} eq T a s w thread count numbers p bs place is fs h = at (nat_l
       (ap (λ (d : Bool). Next (if d then closure_limit else put_members (member_names bs) (letrec_parts T p bs) 0 (member_names bs) (read (hide (member_names bs) (env_at T p)) (open_items (writer_at T p) (outside_at T p) (names_at p ++ member_names bs) is)))) e
       ∙ ap Next (letrec_rest T thread count numbers p bs is h))
       (rest_starts T fs Stepped (with_bound p (member_values thread count numbers 0 (captured_values T p (captured_by_group (outside_at T p) (names_at p) bs)) (member_names bs))) is)
+
+-- a field of an object gets a method
+method_begins : {R : Type 0} → (eq : R → R → Bool) (T : Table R) (a : ℕ) (s : Self R) (thread count : ℕ) (numbers : List CodeNo) (p : Place R) (o : R) (x : Bytes) (q : ProcedureTree) (fs : List (TreeFrame R)) → IsProcHint T numbers p q
+    → Moves eq T a s (plug (frames_of T fs) (Form (SetMethod x) (Part (Const (Loc Object o)) (Part (body_at T p q) End)))) (method_tree T thread count numbers p o x q fs)
+method_begins eq T a s thread count [] p o x q fs h = absurd h
+method_begins {R} eq T a s thread count (number ∷ numbers) p o x (AProc params b place) fs h = at (is_too_deep body) refl where
+  body : Term R
+  body = read (hide params (env_at T p)) (open_block (writer_at T p) (inside (outside_at T p) [] (captured_by (outside_at T p) (names_at p) (AProc params b place))) params b)
+
+  at : (d : Bool) → is_too_deep (read (hide params (env_at T p)) (open_block (writer_at T p) (inside (outside_at T p) [] (captured_by (outside_at T p) (names_at p) (AProc params b place))) params b)) ≡ d
+      → Moves eq T a s (plug (frames_of T fs) (Form (SetMethod x) (Part (Const (Loc Object o)) (Part (body_at T p (AProc params b place)) End))))
+      (if d then tree_moved Stepped fs (tree_raises (codes "closure_limit"))
+      else tree_closed (tree_moved (Asks (PlainSetMethod o x (ClosureValue thread count (number ∷ []) 0 (captured_values T p (captured_by (outside_at T p) (names_at p) (AProc params b place)))))) fs
+      (TreeAct (PlainSetMethod o x (ClosureValue thread count (number ∷ []) 0 (captured_values T p (captured_by (outside_at T p) (names_at p) (AProc params b place))))) TreeHere)))
+  at true e = to_here eq T a s fs _ (tree_raises (codes "closure_limit")) (ap (λ (d : Bool). if d then Next closure_limit else Needs (Set o x (IsMethod params (read (hide params (env_at T p)) (open_block (writer_at T p) (inside (outside_at T p) [] (captured_by (outside_at T p) (names_at p) (AProc params b place))) params b)))) []) e)
+  at false e =
+      asks eq T a s fs _ (PlainSetMethod o x (ClosureValue thread count (number ∷ []) 0 (captured_values T p (captured_by (outside_at T p) (names_at p) (AProc params b place))))) TreeHere
+      (ap (λ (d : Bool). if d then Next closure_limit else Needs (Set o x (IsMethod params (read (hide params (env_at T p)) (open_block (writer_at T p) (inside (outside_at T p) [] (captured_by (outside_at T p) (names_at p) (AProc params b place))) params b)))) []) e
+      ∙ sym (ap (λ (m : Value R). Needs (Set o x (method_of m)) []) (made_read T number numbers p params b place h)))
+
+pub set_method_begins : {R : Type 0} → (eq : R → R → Bool) (T : Table R) (a : ℕ) (s : Self R) (thread count : ℕ) (numbers : List CodeNo) (p : Place R) (v : PlainValue R) (x : Bytes) (q : ProcedureTree) (fs : List (TreeFrame R)) → IsProcHint T numbers p q
+    → Moves eq T a s (term_of T fs (TreeMethod p v x q)) (set_method_tree T thread count numbers p v x q fs)
+set_method_begins eq T a s thread count numbers p (LocationValue Object o) x q fs h = method_begins eq T a s thread count numbers p o x q fs h
+set_method_begins eq T a s thread count numbers p (IntValue z) x (AProc params b place) fs h = to_here eq T a s fs _ (tree_raises (codes "type")) refl
+set_method_begins eq T a s thread count numbers p (TruthValue z) x (AProc params b place) fs h = to_here eq T a s fs _ (tree_raises (codes "type")) refl
+set_method_begins eq T a s thread count numbers p OkayValue x (AProc params b place) fs h = to_here eq T a s fs _ (tree_raises (codes "type")) refl
+set_method_begins eq T a s thread count numbers p (TextValue z) x (AProc params b place) fs h = to_here eq T a s fs _ (tree_raises (codes "type")) refl
+set_method_begins eq T a s thread count numbers p (ExceptionValue z) x (AProc params b place) fs h = to_here eq T a s fs _ (tree_raises (codes "type")) refl
+set_method_begins eq T a s thread count numbers p (ThreadValue z) x (AProc params b place) fs h = to_here eq T a s fs _ (tree_raises (codes "type")) refl
+set_method_begins eq T a s thread count numbers p (LocationValue Array z) x (AProc params b place) fs h = to_here eq T a s fs _ (tree_raises (codes "type")) refl
+set_method_begins eq T a s thread count numbers p (LocationValue Variable z) x (AProc params b place) fs h = to_here eq T a s fs _ (tree_raises (codes "type")) refl
+set_method_begins eq T a s thread count numbers p (LocationValue Writer z) x (AProc params b place) fs h = to_here eq T a s fs _ (tree_raises (codes "type")) refl
+set_method_begins eq T a s thread count numbers p (LocationValue Condition z) x (AProc params b place) fs h = to_here eq T a s fs _ (tree_raises (codes "type")) refl
+set_method_begins eq T a s thread count numbers p (LocationValue Engine z) x (AProc params b place) fs h = to_here eq T a s fs _ (tree_raises (codes "type")) refl
+set_method_begins eq T a s thread count numbers p (ClosureValue t c group index cs) x (AProc params b place) fs h = to_here eq T a s fs _ (tree_raises (codes "type")) (closure_cases T (read_values T cs) (proc_of T group index) (λ f. find eq (activations_at a (frames_of T fs)) (self_at s (frames_of T fs)) (Form (SetMethod x) (Part (Const f) (Part (body_at T p (AProc params b place)) End))) ≡ Next wrong_type) (λ params2 body. refl) (λ names G i. refl))

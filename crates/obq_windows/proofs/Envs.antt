@@ -1,13 +1,13 @@
 -- Names in force, with their values: what binding, entering and capturing do to the environment that a place reads with.
-use Rattle.std.specs.Prelude.{Bool, List, None, Option, Some, T, [], bytes_eq, false, if◌then◌else◌, is_some, length, option_map, refl, suc, true, ℕ, ◌++◌, ◌+◌, ◌∷◌, ◌≡◌, ◌||◌}
-use Rattle.std.proofs.Common.{ap, sym, ◌∙◌, arith}
+use Rattle.std.specs.Prelude.{Bool, List, None, Option, Some, T, [], bytes_eq, false, if◌then◌else◌, is_some, length, option_map, refl, suc, true, ℕ, ◌++◌, ◌+◌, ◌||◌, ◌∷◌, ◌≡◌}
+use Rattle.std.proofs.Common.{ap, arith, sym, ◌∙◌}
 use Rattle.obq_model.specs.Put.{among}
 use Rattle.obq_model.specs.Reading.{Env, also, hide, or_some, with_all}
 use Rattle.obq_model.specs.Scopes.{Outside, last_place, last_place_from}
 use Rattle.obq_model.specs.Terms.{Bytes, Value}
 use Rattle.obq_model.proofs.Among.{bytes_sym, true_false}
 use Rattle.obq_model.proofs.Places.{or_else, place_found}
-use Rattle.obq_windows.specs.Trees.{Bound, Place, bind_of, bound_names, env_at, last_bound, member_at, or_this, proc_group, proc_outside, with_bound, zipped}
+use Rattle.obq_windows.specs.Places.{Bound, Place, bind_of, bound_names, env_at, last_bound, member_at, or_this, proc_group, proc_outside, with_bound, zipped}
 use Rattle.obq_windows.specs.Values.{AValue, NoValues, PlainValue, PlainValues, Table, captured_at, captured_env, no_env, padded, read_all, read_value, read_values}
 
 pub fun_eq : {A B : Type 0} (f g : A → B) → ((x : A) → f x ≡ g x) → f ≡ g

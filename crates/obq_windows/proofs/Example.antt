@@ -1,7 +1,7 @@
 -- The laws on one small source, `for i := 1 to 2 do end`: its table and store are as the laws ask, and its run computes.
 use Rattle.std.specs.Prelude.{List, Some, [], drop, pos, refl, suc, zero, ℕ, ◌∷◌, ◌≡◌}
-use Rattle.std.proofs.Common.{inl}
 use Rattle.obq_base.specs.declared.code.Node.TheVariants as n
+use Rattle.std.proofs.Common.{inl}
 use Rattle.obq_base.specs.Tree.{AnItem, BlockOf, BlockTree, ForTree, IntTree, NoItems, PlainItem}
 use Rattle.obq_base.specs.declared.code.Node.{Node}
 use Rattle.obq_model.specs.Opening.{block_term}
@@ -9,7 +9,7 @@ use Rattle.obq_model.specs.Procedures.{main_proc}
 use Rattle.obq_model.specs.Skipped.{skipped}
 use Rattle.obq_model.specs.Step.{no_self}
 use Rattle.obq_model.specs.Store.{same_loc}
-use Rattle.obq_model.specs.Terms.{Const, Okay}
+use Rattle.obq_model.specs.Terms.{Const, For, Int, Okay}
 use Rattle.obq_windows.specs.Agrees.{Agrees}
 use Rattle.obq_windows.specs.Laws.{RunReads}
 use Rattle.obq_windows.specs.Runs.{AtBottom, Ran, pure_steps, run_nodes}
@@ -80,7 +80,7 @@ agree = record {
 -- five pure steps, and the window is at its bottom
 ran : Ran ℕ
 unfolding store nodes end_of
-ran = run_nodes same_loc store 0 0 40 0 (activation_of (record { source = 0; n = 0 }) 0 0 [] NoValues []) [] (NodeRun 0 0)
+ran = run_nodes same_loc store 0 no_self 0 40 0 (activation_of (record { source = 0; n = 0 }) 0 0 [] NoValues []) [] (NodeRun 0 0)
 
 five : ran.steps ≡ 5
 unfolding ran store nodes end_of

@@ -1,6 +1,6 @@
 -- Places in lists.
 use Rattle.std.specs.Prelude.{List, None, Option, Some, [], drop, length, refl, slice_get, suc, take, zero, ℕ, ◌<◌, ◌∷◌, ◌≡◌}
-use Rattle.std.proofs.Common.{ap, sym, arith}
+use Rattle.std.proofs.Common.{ap, arith, sym}
 
 empty_not : {A : Type 0} → (a : A) (x : List A) → [] ≡ a ∷ x → ⊥
 empty_not a x e = zero_suc (length x) (ap length e) where

@@ -1,6 +1,6 @@
 -- What the table's procedures say of the group that each belongs to.
 use Rattle.std.specs.Prelude.{List, Option, Some, [], length, refl, slice_get, suc, zero, ℕ, ◌+◌, ◌<◌, ◌∷◌, ◌≡◌}
-use Rattle.std.proofs.Common.{inl, inr, subst, ap, ◌∙◌, arith}
+use Rattle.std.proofs.Common.{ap, arith, inl, inr, subst, ◌∙◌}
 use Rattle.obq_base.specs.Tree.{ARecBind, NoRecBinds, ProcedureTree, RecBindTrees}
 use Rattle.obq_base.specs.declared.code.CodeNo.{CodeNo}
 use Rattle.obq_model.specs.Occurrences.{member_names}

@@ -1,11 +1,11 @@
 -- A window that runs `let rec f := proc(n) if n is 0 then 5 else f(n - 1) end end f(2)`: a member calls itself by its group, and the run
 -- computes to the steps of the opening.
-use Rattle.std.specs.Prelude.{List, Some, [], drop, length, pos, refl, true, ℕ, ◌-◌, ◌∷◌, ◌≡◌}
-use Rattle.obq_base.specs.Tree.{ABlock, ALink, ARecBind, AProc, ASuffix, AnArm, AnExpr, AnItem, ApplySuffix, BlockOf, BlockTree, ChainTree, ExprTree, IfTree, IntTree, LetRecItem, NameTree, NoArms, NoExprs, NoItems, NoLinks, NoRecBinds, NoSuffixes, PlainItem, SuffixedTree}
-use Rattle.obq_base.specs.declared.code.CodeNo.{CodeNo}
-use Rattle.obq_base.specs.declared.code.Node.{Node}
+use Rattle.std.specs.Prelude.{List, Some, [], codes, drop, length, pos, refl, true, ℕ, ◌-◌, ◌∷◌, ◌≡◌}
 use Rattle.obq_base.specs.declared.code.Node.TheVariants as n
 use Rattle.obq_base.specs.declared.code.Slot.TheVariants as s
+use Rattle.obq_base.specs.Tree.{ABlock, ALink, AProc, ARecBind, ASuffix, AnArm, AnExpr, AnItem, ApplySuffix, BlockOf, BlockTree, ChainTree, ExprTree, IfTree, IntTree, LetRecItem, NameTree, NoArms, NoExprs, NoItems, NoLinks, NoRecBinds, NoSuffixes, PlainItem, SuffixedTree}
+use Rattle.obq_base.specs.declared.code.CodeNo.{CodeNo}
+use Rattle.obq_base.specs.declared.code.Node.{Node}
 use Rattle.obq_base.specs.declared.code.SourceCode.{SourceCode}
 use Rattle.obq_base.specs.declared.trees.Operator.{Operator}
 use Rattle.obq_model.specs.CodeLaws.{nodes_of}
@@ -14,7 +14,7 @@ use Rattle.obq_model.specs.Resolved.{code_at}
 use Rattle.obq_model.specs.Skipped.{skipped}
 use Rattle.obq_model.specs.Step.{no_self}
 use Rattle.obq_model.specs.Store.{same_loc}
-use Rattle.obq_model.specs.Terms.{Bytes, Const, Int}
+use Rattle.obq_model.specs.Terms.{Apply, Bytes, Const, Int, LetRec, Member}
 use Rattle.obq_windows.specs.Programs.{store_of}
 use Rattle.obq_windows.specs.Runs.{AtBottom, Ran, pure_steps, run_nodes}
 use Rattle.obq_windows.specs.Values.{IntValue, NoValues}
@@ -68,7 +68,7 @@ store = store_of parts (λ number at. length (nodes_of (code_at parts number)) -
 
 ran : Ran ℕ
 unfolding store parts main_nodes body_nodes number_of_f
-ran = run_nodes same_loc store 0 0 100 0 (activation_of (record { source = 0; n = 0 }) 0 0 [] NoValues []) [] (NodeRun 0 0)
+ran = run_nodes same_loc store 0 no_self 0 100 0 (activation_of (record { source = 0; n = 0 }) 0 0 [] NoValues []) [] (NodeRun 0 0)
 
 bottom : ran.stop ≡ AtBottom
 unfolding ran store parts main_nodes body_nodes number_of_f

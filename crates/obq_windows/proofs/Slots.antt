@@ -1,8 +1,8 @@
 -- Names in slots: what a slot has is what its name stands for.
-use Rattle.std.specs.Prelude.{Bool, List, None, Option, Some, [], bytes_eq, drop, false, if◌then◌else◌, is_some, length, option_map, refl, slice_get, suc, true, unwrap_or, ℕ, ◌+◌, ◌<◌, ◌≤◌, ◌∷◌, ◌≡◌, ◌||◌}
-use Rattle.std.proofs.lemmas.Slice.Eq.{bytes_eq-Decides}
-use Rattle.std.proofs.Common.{inr, subst, ap, sym, ◌∙◌, arith}
+use Rattle.std.specs.Prelude.{Bool, List, None, Option, Some, [], bytes_eq, drop, false, if◌then◌else◌, is_some, length, option_map, refl, slice_get, suc, true, unwrap_or, ℕ, ◌+◌, ◌<◌, ◌||◌, ◌∷◌, ◌≡◌, ◌≤◌}
 use Rattle.obq_base.specs.declared.code.Slot.TheVariants as s
+use Rattle.std.proofs.Common.{ap, arith, subst, sym, ◌∙◌}
+use Rattle.std.proofs.lemmas.Slice.Eq.{bytes_eq-Decides}
 use Rattle.obq_base.specs.declared.code.CodeNo.{CodeNo}
 use Rattle.obq_base.specs.declared.code.Node.{Node}
 use Rattle.obq_base.specs.declared.code.Slot.{Slot}
@@ -11,15 +11,17 @@ use Rattle.obq_model.specs.Draft.{Both, Done, Draft, Plain}
 use Rattle.obq_model.specs.Put.{among}
 use Rattle.obq_model.specs.Resolved.{IsCode}
 use Rattle.obq_model.specs.Scopes.{is_covered, last_place, last_place_from, slot_of, slot_or, slots_of}
-use Rattle.obq_model.specs.Terms.{Array, Bytes, Condition, Engine, Object, Variable, Writer}
+use Rattle.obq_model.specs.Terms.{Array, Bytes, Condition, Engine, Member, Object, Variable, Writer}
 use Rattle.obq_model.proofs.Among.{bytes_sym, true_false}
 use Rattle.obq_model.proofs.Drafted.{Drafted}
 use Rattle.obq_model.proofs.Places.{among_place, or_else, place_below, place_found}
 use Rattle.obq_model.proofs.Skips.{ends}
 use Rattle.obq_windows.specs.Agrees.{Agrees, FocusIs, FramesAre, IsBound, Same, StandsAt, place_at}
-use Rattle.obq_windows.specs.Trees.{Bound, Tag, TreeFocus, TreeFrame, begin_name, bound_names, bound_values, captured_values, last_bound, member_at, or_this, outside_at, proc_group, proc_outside, tree_moved, used, value_of, value_or_okay}
+use Rattle.obq_windows.specs.Moves.{begin_name, captured_values, target_value, used, value_or_okay}
+use Rattle.obq_windows.specs.Places.{Bound, bound_names, bound_values, last_bound, member_at, or_this, outside_at, proc_group, proc_outside, value_of, writer_at}
+use Rattle.obq_windows.specs.Trees.{Tag, TreeFocus, TreeFrame, tree_moved}
 use Rattle.obq_windows.specs.Values.{AValue, ClosureValue, ExceptionValue, IntValue, LocationValue, OkayValue, PlainValue, Table, TextValue, ThreadValue, TruthValue, captured_at}
-use Rattle.obq_windows.specs.Windows.{Activation, NodeFocus, NodeFrame, NodeMoved, NodeValue, Store, capture, node_at, node_moved, slot_value, use_node, use_slot}
+use Rattle.obq_windows.specs.Windows.{Activation, NodeFocus, NodeFrame, NodeHere, NodeMoved, NodeValue, Store, capture, node_at, node_moved, slot_value, use_node, use_slot}
 use Rattle.obq_windows.proofs.Lists.{behind_here, item_here, take_get}
 
 -- the nodes here, and behind a first tree
@@ -117,21 +119,47 @@ capture_is {R} T S act b bound w mg (x ∷ xs) h =
         right true c e = refl
         right false c e = e
 
+-- what stands at a name that is assigned to is in its slot
+pub target_alike : {R : Type 0} → (T : Table R) (S : Store R) → Agrees T S → (act : Activation R) (b : ℕ) (bound : List (Bound R)) → IsBound act b bound → ((k : ℕ) → k < length (outside_at T (place_at act bound)).members → act.group ≡ proc_group (T.procs act.code)) → (x : Bytes)
+    → slot_value S act (slot_of (outside_at T (place_at act bound)) (bound_names bound) x) ≡ target_value T (place_at act bound) x
+target_alike {R} T S g act b bound w mg x = at (is_covered (outside_at T (place_at act bound)) (bound_names bound) x) refl where
+  none : (o : Option ℕ) → is_some o ≡ false → o ≡ None
+  none None e = refl
+  none (Some k) e = absurd (true_false e)
+
+  apart : (a c d : Bool) → (a || (c || d)) ≡ false → (a ≡ false) × (c ≡ false) × (d ≡ false)
+  apart false false false e = (refl, refl, refl)
+  apart true c d e = absurd (true_false e)
+  apart false true d e = absurd (true_false e)
+  apart false false true e = absurd (true_false e)
+
+  uncovered : is_covered (outside_at T (place_at act bound)) (bound_names bound) x ≡ false → slot_of (outside_at T (place_at act bound)) (bound_names bound) x ≡ s.Stdout (proc_outside (T.procs act.code)).source
+  uncovered e =
+      let f = apart _ _ _ e in
+      ap (λ z. slot_or s.Local z (slot_or s.Member (last_place x (proc_outside (T.procs act.code)).members) (slot_or s.Captured (last_place x (proc_outside (T.procs act.code)).captured) (s.Stdout (proc_outside (T.procs act.code)).source)))) (none _ (sym (among_place 0 x (bound_names bound)) ∙ f.0))
+      ∙ ap (λ z. slot_or s.Member z (slot_or s.Captured (last_place x (proc_outside (T.procs act.code)).captured) (s.Stdout (proc_outside (T.procs act.code)).source))) (none _ (sym (among_place 0 x (proc_outside (T.procs act.code)).members) ∙ f.1))
+      ∙ ap (λ z. slot_or s.Captured z (s.Stdout (proc_outside (T.procs act.code)).source)) (none _ (sym (among_place 0 x (proc_outside (T.procs act.code)).captured) ∙ f.2))
+
+  at : (c : Bool) → is_covered (outside_at T (place_at act bound)) (bound_names bound) x ≡ c
+      → slot_value S act (slot_of (outside_at T (place_at act bound)) (bound_names bound) x) ≡ (if c then value_or_okay (value_of T (place_at act bound) x) else LocationValue Writer (writer_at T (place_at act bound)))
+  at true e = sym (ap value_or_okay (slot_is T S act b bound w mg x e))
+  at false e = ap (slot_value S act) (uncovered e) ∙ ap (LocationValue Writer) (g.writer (proc_outside (T.procs act.code)).source)
+
 -- a value that is used
 pub used_alike : {R : Type 0} → (T : Table R) (S : Store R) (act : Activation R) (b : ℕ) (ns : List (NodeFrame R)) (fs : List (TreeFrame R)) → FramesAre T S act b ns fs → (v : PlainValue R) → Same T S (use_slot true act ns v) (used (Some v) fs)
-used_alike T S act b ns fs fr (LocationValue Variable r) = inr (record { tag = refl; makes = refl; height = b; frames = fr; focus = refl })
-used_alike T S act b ns fs fr (LocationValue Object r) = inr (record { tag = refl; makes = refl; height = b; frames = fr; focus = refl })
-used_alike T S act b ns fs fr (LocationValue Array r) = inr (record { tag = refl; makes = refl; height = b; frames = fr; focus = refl })
-used_alike T S act b ns fs fr (LocationValue Writer r) = inr (record { tag = refl; makes = refl; height = b; frames = fr; focus = refl })
-used_alike T S act b ns fs fr (LocationValue Condition r) = inr (record { tag = refl; makes = refl; height = b; frames = fr; focus = refl })
-used_alike T S act b ns fs fr (LocationValue Engine r) = inr (record { tag = refl; makes = refl; height = b; frames = fr; focus = refl })
-used_alike T S act b ns fs fr (IntValue z) = inr (record { tag = refl; makes = refl; height = b; frames = fr; focus = refl })
-used_alike T S act b ns fs fr (TruthValue z) = inr (record { tag = refl; makes = refl; height = b; frames = fr; focus = refl })
-used_alike T S act b ns fs fr OkayValue = inr (record { tag = refl; makes = refl; height = b; frames = fr; focus = refl })
-used_alike T S act b ns fs fr (TextValue z) = inr (record { tag = refl; makes = refl; height = b; frames = fr; focus = refl })
-used_alike T S act b ns fs fr (ExceptionValue z) = inr (record { tag = refl; makes = refl; height = b; frames = fr; focus = refl })
-used_alike T S act b ns fs fr (ThreadValue z) = inr (record { tag = refl; makes = refl; height = b; frames = fr; focus = refl })
-used_alike T S act b ns fs fr (ClosureValue t c group index cs) = inr (record { tag = refl; makes = refl; height = b; frames = fr; focus = refl })
+used_alike T S act b ns fs fr (LocationValue Variable r) = record { tag = refl; makes = refl; height = b; frames = fr; focus = (NodeHere, refl, refl) }
+used_alike T S act b ns fs fr (LocationValue Object r) = record { tag = refl; makes = refl; height = b; frames = fr; focus = refl }
+used_alike T S act b ns fs fr (LocationValue Array r) = record { tag = refl; makes = refl; height = b; frames = fr; focus = refl }
+used_alike T S act b ns fs fr (LocationValue Writer r) = record { tag = refl; makes = refl; height = b; frames = fr; focus = refl }
+used_alike T S act b ns fs fr (LocationValue Condition r) = record { tag = refl; makes = refl; height = b; frames = fr; focus = refl }
+used_alike T S act b ns fs fr (LocationValue Engine r) = record { tag = refl; makes = refl; height = b; frames = fr; focus = refl }
+used_alike T S act b ns fs fr (IntValue z) = record { tag = refl; makes = refl; height = b; frames = fr; focus = refl }
+used_alike T S act b ns fs fr (TruthValue z) = record { tag = refl; makes = refl; height = b; frames = fr; focus = refl }
+used_alike T S act b ns fs fr OkayValue = record { tag = refl; makes = refl; height = b; frames = fr; focus = refl }
+used_alike T S act b ns fs fr (TextValue z) = record { tag = refl; makes = refl; height = b; frames = fr; focus = refl }
+used_alike T S act b ns fs fr (ExceptionValue z) = record { tag = refl; makes = refl; height = b; frames = fr; focus = refl }
+used_alike T S act b ns fs fr (ThreadValue z) = record { tag = refl; makes = refl; height = b; frames = fr; focus = refl }
+used_alike T S act b ns fs fr (ClosureValue t c group index cs) = record { tag = refl; makes = refl; height = b; frames = fr; focus = refl }
 
 pub name_alike : {R : Type 0} → (T : Table R) (S : Store R) → Agrees T S → (act : Activation R) (b : ℕ) (bound : List (Bound R)) → IsBound act b bound → ((k : ℕ) → k < length (outside_at T (place_at act bound)).members → act.group ≡ proc_group (T.procs act.code)) → (ns : List (NodeFrame R)) (fs : List (TreeFrame R)) → FramesAre T S act b ns fs → (x : Bytes)
     → Same T S (use_node S act ns (slot_of (outside_at T (place_at act bound)) (bound_names bound) x)) (begin_name T (place_at act bound) (is_covered (outside_at T (place_at act bound)) (bound_names bound) x) x fs)
@@ -166,10 +194,10 @@ name_alike {R} T S g act b bound w mg ns fs fr x =
       at None e None f None h =
           subst (λ (sl : Slot). Same T S (use_node S act ns sl) (begin_name T (place_at act bound) (is_covered (outside_at T (place_at act bound)) (bound_names bound) x) x fs)) (sym (slot None None None e f h))
           (subst (λ (d : Bool). Same T S (use_node S act ns (s.Stdout (proc_outside (T.procs act.code)).source)) (begin_name T (place_at act bound) d x fs)) (sym (cover None None None e f h))
-          (inr (record { tag = refl; makes = refl; height = b; frames = fr; focus = ap (λ z. NodeValue (LocationValue Writer z)) (g.writer (proc_outside (T.procs act.code)).source) })))
+          (record { tag = refl; makes = refl; height = b; frames = fr; focus = ap (λ z. NodeValue (LocationValue Writer z)) (g.writer (proc_outside (T.procs act.code)).source) }))
 
 pub alike : {R : Type 0} → (T : Table R) (S : Store R) (tag : Tag R) (act : Activation R) (b : ℕ) (ns : List (NodeFrame R)) (nf : NodeFocus R) (fs : List (TreeFrame R)) (tf : TreeFocus R) → FramesAre T S act b ns fs → FocusIs T S act b nf tf → Same T S (node_moved tag act ns nf) (tree_moved tag fs tf)
-alike T S tag act b ns nf fs tf h k = inr (record { tag = refl; makes = refl; height = b; frames = h; focus = k })
+alike T S tag act b ns nf fs tf h k = record { tag = refl; makes = refl; height = b; frames = h; focus = k }
 
 pub not_above : (n : ℕ) → n ≤ n
 not_above n = omega arith

@@ -1,8 +1,13 @@
 pub mod Agrees
+pub mod Acts
 pub mod Complete
 pub mod Laws
+pub mod Literals
 pub mod Meanings
+pub mod Moves
+pub mod Places
 pub mod Programs
+pub mod Results
 pub mod Runs
 pub mod Trees
 pub mod Values

@@ -1,6 +1,7 @@
 //! Windows of the pure machine against its terms: laws and definitions. No code runs here.
 #![tactic(auto)]
 
+ghost use Rattle.obq_windows.specs.Acts.{AnswersRead, SelfIsOwn, WindowsBegin};
 ghost use Rattle.obq_windows.specs.Laws.{OpeningReads, OpeningRuns, RunMoves, StepsAreThose, TreeMoves, WindowMoves};
 ghost use Rattle.obq_windows.specs.Programs.{ProgramsAgree, ProgramsRun};
 
@@ -17,6 +18,24 @@ pub fn window_moves<R>()
 /// A run of moves of a window over nodes comes to what its pure steps of the term come to, with the same stop.
 pub fn run_moves<R>()
     ensures law { RunMoves R }
+{}
+
+/// What an act leaves may stand at the act's form: a value (under its name where the form is that of a variable or of a turn of a
+/// `foreach`), a raising, the body of a method or of a closure, another act's form, or a guard to test. The window then reads back
+/// as the frames around that form with it in their hole.
+pub fn answers_read<R>()
+    ensures law { AnswersRead R }
+{}
+
+/// At an act's form the current self is the window's own: the object of the innermost method in it, or what lies around the window.
+pub fn self_is_own<R>()
+    ensures law { SelfIsOwn R }
+{}
+
+/// A new window reads back as what begins there: the call of a thread's closure; the body of a method, or of a closure that an engine
+/// calls, where the caller's window lies elsewhere.
+pub fn windows_begin<R>()
+    ensures law { WindowsBegin R }
 {}
 
 /// Those pure steps are the ones that a journal's entry counts.

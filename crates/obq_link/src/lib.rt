@@ -1,0 +1,9 @@
+//! Lines of frames between two sites.
+#![tactic(auto)]
+
+mod line;
+
+pub use line::Line;
+
+#[cfg(test)]
+mod tests;

@@ -1,0 +1,14 @@
+pub mod Loop
+pub mod Exact
+pub mod Fields
+pub mod Lists
+pub mod ExactParts
+pub mod ExactValues
+pub mod ExactOperations
+pub mod ExactPackets
+pub mod FrameLaws
+pub mod WalkLaws
+pub mod Earlier
+pub mod SeenLaws
+pub mod Numbered
+pub mod BehindTags
