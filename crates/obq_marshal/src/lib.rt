@@ -1,0 +1,9 @@
+//! Values on their way: a table of the closed groups that they need, and values over it.
+#![tactic(auto)]
+
+mod cache;
+mod carried;
+mod unpacking;
+
+pub use cache::ImportCache;
+pub use carried::Carried;
