@@ -1,5 +1,5 @@
 -- Which values a table and values over it stand for.
-use Rattle.std.specs.Prelude.{ℕ, suc, max, min, ◌+◌, Bool, List, [], ◌∷◌, ◌++◌, map, fold, Option, Some, None, slice_get, ◌&&◌, ◌==◌}
+use Rattle.std.specs.Prelude.{ℕ, max, min, ◌+◌, Bool, List, [], ◌∷◌, ◌++◌, map, fold, Option, Some, None, slice_get, ◌&&◌, ◌==◌}
 use Rattle.std.specs.Map.{lookup}
 use Rattle.indexmap.specs.IndexMap.{insert_entry}
 use Rattle.obq_base.specs.declared.values.Group.{Group}

@@ -3,7 +3,9 @@
 
 mod cache;
 mod carried;
+mod packing;
 mod unpacking;
 
 pub use cache::ImportCache;
 pub use carried::Carried;
+pub use packing::pack;

@@ -1,4 +1,4 @@
-use Rattle.std.proofs.Common.{rules, ◌≡◌, ◌∙◌, ap, ℕ, take, OnErr}
+use Rattle.std.proofs.Common.{rules, ◌≡◌, ◌∙◌, ap, ℕ, take}
 use Rattle.obq_marshal.specs.Groups.{Unpacked, unpacked}
 use Rattle.obq_marshal.proofs.cache.ImportCache.unpack.Goals as goal
 
