@@ -52,14 +52,18 @@ with_made r q = after q.placed (r.made ++ q.made ∷ [])
 abbrev pub in_turn : List (Packs WireValue) → Packs (List WireValue)
 in_turn steps placed = fold (λ r step. with_made r (step r.placed)) (after placed []) steps
 
--- the entry of a group, behind those that its captured values need
-abbrev pub entered : GroupNo → List CodeNo → After (List WireValue) → After ℕ
-entered g codes r =
+-- the entry of a group that isn't there, behind those that its captured values need
+abbrev pub entered : GroupNo → List CodeNo → After (List WireValue) → Option ℕ → After ℕ
+entered g codes r (Some i) = after r.placed i
+entered g codes r None =
     after (insert_entry same_key r.placed (g.thread, g.n) (record { number = g; codes = codes; captured = r.made })) (length r.placed)
+
+abbrev pub entered_behind : GroupNo → List CodeNo → After (List WireValue) → After ℕ
+entered_behind g codes r = entered g codes r (index_of g r.placed)
 
 abbrev pub place : GroupNo → List CodeNo → List (Packs WireValue) → Placed → Option ℕ → After ℕ
 place g codes captured placed (Some i) = after placed i
-place g codes captured placed None = entered g codes (in_turn captured placed)
+place g codes captured placed None = entered_behind g codes (in_turn captured placed)
 
 abbrev pub group_step : Group-F (Packs WireValue) (Packs ℕ) → Packs ℕ
 group_step g placed = place g.number g.codes g.captured placed (index_of g.number placed)

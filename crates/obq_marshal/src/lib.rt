@@ -9,3 +9,6 @@ mod unpacking;
 pub use cache::ImportCache;
 pub use carried::Carried;
 pub use packing::pack;
+
+#[cfg(test)]
+mod tests;

@@ -98,8 +98,13 @@ impl Packing {
         codes: &[CodeNo],
         captured: Items<WireValue>,
     ) -> Result<u32, NoMemory>
-        ensures { IfOk result (λ i. entered number codes.now (after self.old captured) ≡ after self.new i) }
+        ensures { IfOk result (λ i. entered number codes.now (after self.old captured) (index_of number self.old) ≡ after self.new i) }
     {
+        // A group that its captured values needed would be there by now.
+        if let Some(index) = self.index_of(number) {
+            drop(captured);
+            return narrowed(index);
+        }
         let index = narrowed(self.entries.len())?;
         let codes = Items::from_slice(self.alloc, codes)?;
         let entry = TableEntry {
