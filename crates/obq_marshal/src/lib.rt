@@ -3,11 +3,13 @@
 
 mod cache;
 mod carried;
+mod laws;
 mod packing;
 mod unpacking;
 
 pub use cache::ImportCache;
 pub use carried::Carried;
+pub use laws::closures_travel;
 pub use packing::pack;
 
 #[cfg(test)]
