@@ -1,7 +1,7 @@
 -- A part that begins: nodes and trees do the same.
 use Rattle.std.specs.Prelude.{Bool, List, None, Option, Some, [], codes, false, if◌then◌else◌, nat_lt, refl, slice_get, suc, true, ℕ, ◌∷◌, ◌≡◌}
 use Rattle.obq_base.specs.declared.code.Node.TheVariants as n
-use Rattle.std.proofs.Common.{inl, inr, subst, sym}
+use Rattle.std.proofs.Common.{subst, sym}
 use Rattle.obq_base.specs.Tree.{ABlock, ALink, AProc, ASuffix, AnArm, AnExpr, ApplySuffix, ArmTrees, ArrayTree, BlockTree, ChainTree, CloneTree, ExitTree, ExprTree, FinallyTree, ForTree, ForeachTree, IfTree, IndexSuffix, IntTree, InvokeSuffix, LinkTrees, LoopTree, MaybeBlock, MethodOf, NameTree, NoArms, NoBlock, NoExprs, NoLinks, NoSuffixes, ObjectTree, OkTree, ProcTree, RaiseTree, RedirectTree, SelectSuffix, SuffixTrees, SuffixedTree, TextTree, TruthTree, TryTree, WatchTree}
 use Rattle.obq_base.specs.declared.code.CodeNo.{CodeNo}
 use Rattle.obq_base.specs.declared.code.Node.{Node}
@@ -13,9 +13,8 @@ use Rattle.obq_model.specs.Occurrences.{free_procedure}
 use Rattle.obq_model.specs.Opened.{open_block}
 use Rattle.obq_model.specs.Procedures.{Proc}
 use Rattle.obq_model.specs.Reading.{hide, read}
-use Rattle.obq_model.specs.Scopes.{Outside, inside, slot_of, slots_of}
-use Rattle.obq_model.specs.Step.{SetItem}
-use Rattle.obq_model.specs.Terms.{Array, Assign, Builtin, Bytes, Clone, Condition, Engine, Exit, ExitUp, Finally, For, Foreach, Int, Let, LetRec, Loop, Object, Okay, Raise, Redirect, Truth, Try, Var, Variable, Watch, Writer}
+use Rattle.obq_model.specs.Scopes.{inside, slots_of}
+use Rattle.obq_model.specs.Terms.{Array, Bytes, Clone, Condition, Engine, Exit, ExitUp, Finally, For, Foreach, Int, Loop, Object, Okay, Raise, Redirect, Truth, Try, Variable, Watch, Writer}
 use Rattle.obq_model.proofs.Among.{true_false}
 use Rattle.obq_model.proofs.Drafted.{drafted_block, drafted_expr, drafted_suffix}
 use Rattle.obq_model.proofs.Finds.{row_called}
@@ -26,8 +25,10 @@ use Rattle.obq_windows.specs.Moves.{HintExpr, begin_args, begin_expr, begin_if, 
 use Rattle.obq_windows.specs.Places.{Bound, Place, bound_names, env_at, outside_at, writer_at}
 use Rattle.obq_windows.specs.Trees.{Asks, BlockTask, ExprTask, PendingChain, PendingFirst, PendingForeach, PendingHead, PendingIf, PendingLast, PendingLoop, PendingRaise, PendingTry, PendingWatch, PlainSetMethod, Silent, Stepped, Tag, ToArray, ToBuiltin, ToClone, ToRedirect, TreeAct, TreeFrame, TreeHere, TreeMoved, TreeRaising, TreeRun, TreeValue, push, tree_made, tree_moved, tree_raises}
 use Rattle.obq_windows.specs.Values.{ClosureValue, ExceptionValue, IntValue, LocationValue, OkayValue, PlainValue, PlainValues, Table, TextValue, ThreadValue, TruthValue, depth_of_values}
-use Rattle.obq_windows.specs.Windows.{Activation, NodeAct, NodeChain, NodeFirst, NodeForeach, NodeFrame, NodeHead, NodeHere, NodeIf, NodeLast, NodeLoop, NodeMoved, NodeRaise, NodeRaising, NodeRun, NodeTry, NodeValue, NodeWatch, Store, arms_node, begin_node, item_node, method_node, node_at, node_closed, node_made, node_moved, node_raises, set_method_node, suffixes_node, with_item, with_operator, with_suffix}
+use Rattle.obq_windows.specs.Windows.{Activation, NodeAct, NodeChain, NodeFirst, NodeForeach, NodeFrame, NodeHead, NodeHere, NodeIf, NodeLast, NodeLoop, NodeMoved, NodeRaise, NodeRaising, NodeRun, NodeTry, NodeValue, NodeWatch, Store, arms_node, begin_node, method_node, node_at, node_closed, node_made, node_moved, node_raises, set_method_node, suffixes_node, with_operator, with_suffix}
 use Rattle.obq_windows.proofs.AlikeCalls.{args_alike, as_pair}
+use Rattle.obq_windows.proofs.AlikeLiterals.{fields_alike}
+use Rattle.obq_windows.proofs.Heads.{at_node, expr_head, suffixes_plain}
 use Rattle.obq_windows.proofs.Lists.{item_here}
 use Rattle.obq_windows.proofs.Slots.{alike, behind_none, capture_is, first_of, name_alike, next_here, node_here, not_above, regrouped, second_of}
 
@@ -42,10 +43,6 @@ arms_alike {R} T S g tag act b bound w ns fs fr at (AnArm c block arms) last h =
     alike T S tag act b (NodeIf (S.end act.code at) (count_arms arms) (has_block last) b ∷ ns) (NodeRun at b) (push (place_at act bound) (PendingIf block arms last) fs) (TreeRun (place_at act bound) (ExprTask c))
     (NodeIf (S.end act.code at) (count_arms arms) (has_block last) b, ns, refl, (S.end act.code at, b, refl, not_above b, (bound, refl, w), second_of T S g (drafted_expr _ _ c) h2), fr)
     (at, refl, (bound, refl, w), first_of T S h2)
-
--- with this node at the place
-pub at_node : {R : Type 0} → (T : Table R) (S : Store R) (number : CodeNo) (at : ℕ) (a : Node) (f : Option Node → NodeMoved R) (t : TreeMoved R) → node_at S number at ≡ Some a → Same T S (f (Some a)) t → Same T S (f (node_at S number at)) t
-at_node {R} T S number at a f t e h = subst (λ (o : Option Node). Same T S (f o) t) (sym e) h
 
 -- the operators of a chain from the first on
 chain_alike : {R : Type 0} → (T : Table R) (S : Store R) → Agrees T S → (act : Activation R) (b : ℕ) (bound : List (Bound R)) → IsBound act b bound → (ns : List (NodeFrame R)) (fs : List (TreeFrame R)) → FramesAre T S act b ns fs → (at : ℕ) (e : ExprTree) (links : LinkTrees)
@@ -71,8 +68,8 @@ proc_alike {R} T S g a thread count act b bound d w ns fs fr at params block pla
     (sym (d.proc params block place)) (by_depth (is_too_deep (read (hide params (env_at T (place_at act bound))) (open_block (writer_at T (place_at act bound)) (inside (outside_at T (place_at act bound)) [] (captured_by (outside_at T (place_at act bound)) (bound_names bound) (AProc params block place))) params block)))))) where
       by_depth : (c : Bool) → Same T S (if c then node_moved Stepped act ns (node_raises (codes "closure_limit")) else node_made act ns (NodeValue (ClosureValue thread count (h.nodes.0 ∷ []) 0 (captured_values T (place_at act bound) (captured_by (outside_at T (place_at act bound)) (bound_names bound) (AProc params block place))))))
           (if c then tree_moved Stepped fs (tree_raises (codes "closure_limit")) else tree_made fs (TreeValue (ClosureValue thread count (h.nodes.0 ∷ []) 0 (captured_values T (place_at act bound) (captured_by (outside_at T (place_at act bound)) (bound_names bound) (AProc params block place))))))
-      by_depth true = inr (record { tag = refl; makes = refl; height = b; frames = fr; focus = refl })
-      by_depth false = inr (record { tag = refl; makes = refl; height = b; frames = fr; focus = refl })
+      by_depth true = record { tag = refl; makes = refl; height = b; frames = fr; focus = refl }
+      by_depth false = record { tag = refl; makes = refl; height = b; frames = fr; focus = refl }
 
 -- a method that a field gets
 pub method_alike : {R : Type 0} → (T : Table R) (S : Store R) → Agrees T S → (o : R) (x : Bytes) (thread count : ℕ) (act : Activation R) (b : ℕ) (bound : List (Bound R)) → PlaceLaw T (place_at act bound) → IsBound act b bound → (ns : List (NodeFrame R)) (fs : List (TreeFrame R)) → FramesAre T S act b ns fs → (at : ℕ) (params : List Bytes) (block : BlockTree) (place : ℕ)
@@ -88,83 +85,25 @@ method_alike {R} T S g o x thread count act b bound d w ns fs fr at params block
     (sym (d.proc params block place)) (by_depth (is_too_deep (read (hide params (env_at T (place_at act bound))) (open_block (writer_at T (place_at act bound)) (inside (outside_at T (place_at act bound)) [] (captured_by (outside_at T (place_at act bound)) (bound_names bound) (AProc params block place))) params block)))))) where
       by_depth : (c : Bool) → Same T S (if c then node_moved Stepped act ns (node_raises (codes "closure_limit")) else node_closed (node_moved (Asks (PlainSetMethod o x (ClosureValue thread count (h.nodes.0 ∷ []) 0 (captured_values T (place_at act bound) (captured_by (outside_at T (place_at act bound)) (bound_names bound) (AProc params block place)))))) act ns (NodeAct (PlainSetMethod o x (ClosureValue thread count (h.nodes.0 ∷ []) 0 (captured_values T (place_at act bound) (captured_by (outside_at T (place_at act bound)) (bound_names bound) (AProc params block place))))) NodeHere)))
           (if c then tree_moved Stepped fs (tree_raises (codes "closure_limit")) else tree_closed (tree_moved (Asks (PlainSetMethod o x (ClosureValue thread count (h.nodes.0 ∷ []) 0 (captured_values T (place_at act bound) (captured_by (outside_at T (place_at act bound)) (bound_names bound) (AProc params block place)))))) fs (TreeAct (PlainSetMethod o x (ClosureValue thread count (h.nodes.0 ∷ []) 0 (captured_values T (place_at act bound) (captured_by (outside_at T (place_at act bound)) (bound_names bound) (AProc params block place))))) TreeHere)))
-      by_depth true = inr (record { tag = refl; makes = refl; height = b; frames = fr; focus = refl })
-      by_depth false = inr (record { tag = refl; makes = refl; height = b; frames = fr; focus = (NodeHere, refl, refl) })
+      by_depth true = record { tag = refl; makes = refl; height = b; frames = fr; focus = refl }
+      by_depth false = record { tag = refl; makes = refl; height = b; frames = fr; focus = (NodeHere, refl, refl) }
 
 pub set_method_alike : {R : Type 0} → (T : Table R) (S : Store R) → Agrees T S → (thread count : ℕ) (act : Activation R) (b : ℕ) (bound : List (Bound R)) → PlaceLaw T (place_at act bound) → IsBound act b bound → (ns : List (NodeFrame R)) (fs : List (TreeFrame R)) → FramesAre T S act b ns fs → (at : ℕ) (v : PlainValue R) (x : Bytes) (params : List Bytes) (block : BlockTree) (place : ℕ)
     → (h : StandsAt T S act.code (draft_field (outside_at T (place_at act bound)) (bound_names bound) (MethodOf (AProc params block place))) at)
     → Same T S (set_method_node S thread count v x act ns (node_at S act.code at)) (set_method_tree T thread count (h.nodes.0 ∷ []) (place_at act bound) v x (AProc params block place) fs)
 set_method_alike T S g thread count act b bound d w ns fs fr at (LocationValue Object o) x params block place h = method_alike T S g o x thread count act b bound d w ns fs fr at params block place h
-set_method_alike T S g thread count act b bound d w ns fs fr at (IntValue z) x params block place h = inr (record { tag = refl; makes = refl; height = b; frames = fr; focus = refl })
-set_method_alike T S g thread count act b bound d w ns fs fr at (TruthValue z) x params block place h = inr (record { tag = refl; makes = refl; height = b; frames = fr; focus = refl })
-set_method_alike T S g thread count act b bound d w ns fs fr at OkayValue x params block place h = inr (record { tag = refl; makes = refl; height = b; frames = fr; focus = refl })
-set_method_alike T S g thread count act b bound d w ns fs fr at (TextValue z) x params block place h = inr (record { tag = refl; makes = refl; height = b; frames = fr; focus = refl })
-set_method_alike T S g thread count act b bound d w ns fs fr at (ExceptionValue z) x params block place h = inr (record { tag = refl; makes = refl; height = b; frames = fr; focus = refl })
-set_method_alike T S g thread count act b bound d w ns fs fr at (ThreadValue z) x params block place h = inr (record { tag = refl; makes = refl; height = b; frames = fr; focus = refl })
-set_method_alike T S g thread count act b bound d w ns fs fr at (LocationValue Array z) x params block place h = inr (record { tag = refl; makes = refl; height = b; frames = fr; focus = refl })
-set_method_alike T S g thread count act b bound d w ns fs fr at (LocationValue Variable z) x params block place h = inr (record { tag = refl; makes = refl; height = b; frames = fr; focus = refl })
-set_method_alike T S g thread count act b bound d w ns fs fr at (LocationValue Writer z) x params block place h = inr (record { tag = refl; makes = refl; height = b; frames = fr; focus = refl })
-set_method_alike T S g thread count act b bound d w ns fs fr at (LocationValue Condition z) x params block place h = inr (record { tag = refl; makes = refl; height = b; frames = fr; focus = refl })
-set_method_alike T S g thread count act b bound d w ns fs fr at (LocationValue Engine z) x params block place h = inr (record { tag = refl; makes = refl; height = b; frames = fr; focus = refl })
-set_method_alike T S g thread count act b bound d w ns fs fr at (ClosureValue t c group index cs) x params block place h = inr (record { tag = refl; makes = refl; height = b; frames = fr; focus = refl })
-
--- a node that is neither an item's nor stands for a suffix
-abbrev pub plain_node : Node → Bool
-plain_node (n.Builtin r args) = false
-plain_node (n.Let binds) = false
-plain_node (n.Var binds) = false
-plain_node (n.LetRec numbers from) = false
-plain_node (n.Assign slot) = false
-plain_node (n.SetField name) = false
-plain_node n.SetItem = false
-plain_node (n.Alias name) = false
-plain_node (n.Meth number from) = false
-plain_node a = true
-
-pub record Head {R : Type 0} (S : Store R) (number : CodeNo) (at : ℕ) : Type 0 where
-  pub node : Node
-  pub there : node_at S number at ≡ Some node
-  pub plain : plain_node node ≡ true
-
--- an expression begins with such a node
-pub expr_head : {R : Type 0} → (T : Table R) (S : Store R) (number : CodeNo) (u : Outside) (names : List Bytes) (at : ℕ) (e : ExprTree) → StandsAt T S number (draft_expr u names e) at → Head S number at
-expr_head T S number u names at (IntTree z place) h = record { node = n.Int z; there = node_here T S h; plain = refl }
-expr_head T S number u names at (TextTree t place) h = record { node = n.Str t; there = node_here T S h; plain = refl }
-expr_head T S number u names at (TruthTree b place) h = record { node = n.Truth b; there = node_here T S h; plain = refl }
-expr_head T S number u names at (OkTree place) h = record { node = n.Okay; there = node_here T S h; plain = refl }
-expr_head T S number u names at (NameTree x place) h = record { node = n.Use (slot_of u names x); there = node_here T S h; plain = refl }
-expr_head T S number u names at (ArrayTree es place) h = record { node = n.Array (count_exprs es); there = node_here T S h; plain = refl }
-expr_head T S number u names at (ObjectTree flags fs place) h = record { node = n.Object flags (field_names fs); there = node_here T S h; plain = refl }
-expr_head T S number u names at (IfTree arms last place) h = record { node = n.If (count_arms arms) (has_block last); there = node_here T S h; plain = refl }
-expr_head T S number u names at (LoopTree b place) h = record { node = n.Loop; there = node_here T S h; plain = refl }
-expr_head T S number u names at (ExitTree place) h = record { node = n.Exit; there = node_here T S h; plain = refl }
-expr_head T S number u names at (ForTree x m l b place) h = record { node = n.For; there = node_here T S h; plain = refl }
-expr_head T S number u names at (ForeachTree x e b place) h = record { node = n.Foreach; there = node_here T S h; plain = refl }
-expr_head T S number u names at (TryTree b arms last place) h = record { node = n.Try (count_arms arms) (has_block last); there = node_here T S h; plain = refl }
-expr_head T S number u names at (FinallyTree b last place) h = record { node = n.Finally; there = node_here T S h; plain = refl }
-expr_head T S number u names at (RaiseTree e place) h = record { node = n.Raise; there = node_here T S h; plain = refl }
-expr_head T S number u names at (WatchTree c e place) h = record { node = n.Watch; there = node_here T S h; plain = refl }
-expr_head T S number u names at (RedirectTree e f place) h = record { node = n.Redirect; there = node_here T S h; plain = refl }
-expr_head T S number u names at (CloneTree es place) h = record { node = n.Clone (count_exprs es); there = node_here T S h; plain = refl }
-expr_head T S number u names at (ChainTree e links) h = record { node = n.Chain (operators_of links); there = node_here T S h; plain = refl }
-expr_head T S number u names at (ProcTree p) h = record { node = n.Proc h.nodes.0 (slots_of u names (captured_by u names p)); there = item_here (nodes_of (S.code number)) at _ h.nodes.1 h.nodes.2; plain = refl }
-expr_head {R} T S number u names at (SuffixedTree e ss) h = at_row (called_row u names e ss) h where
-  at_row : (o : Option ℕ) → StandsAt T S number (elim o [ None ↦ Plain (n.Suffixes (count_suffixes ss)) (Both (draft_expr u names e) (draft_suffixes u names None ss)) | Some row ↦ Plain (n.Suffixes (count_suffixes (behind_first ss))) (draft_suffixes u names (Some row) ss) ]) at → Head S number at
-  at_row None h = record { node = n.Suffixes (count_suffixes ss); there = node_here T S h; plain = refl }
-  at_row (Some r) h = record { node = n.Suffixes (count_suffixes (behind_first ss)); there = node_here T S h; plain = refl }
-
-suffixes_plain : {R : Type 0} → (S : Store R) (k : ℕ) (act : Activation R) (ns : List (NodeFrame R)) (at m b : ℕ) (a : Node) → plain_node a ≡ true → suffixes_node S k act ns at m b (Some a) ≡ node_moved Silent act (with_suffix (S.end act.code (suc at)) m b ns) (NodeRun (suc at) b)
-suffixes_plain S k act ns at m b (n.Builtin r args) e = absurd (true_false (sym e))
-suffixes_plain S k act ns at m b a e = refl
-
-pub item_plain : {R : Type 0} → (S : Store R) (k thread count : ℕ) (act : Activation R) (ns : List (NodeFrame R)) (at left b : ℕ) (a : Node) → plain_node a ≡ true → item_node S k thread count act ns at left b (Some a) ≡ begin_node S k thread count act (with_item (S.end act.code at) left b ns) at b (Some a)
-item_plain S k thread count act ns at left b (n.Let binds) e = absurd (true_false (sym e))
-item_plain S k thread count act ns at left b (n.Var binds) e = absurd (true_false (sym e))
-item_plain S k thread count act ns at left b (n.LetRec numbers from) e = absurd (true_false (sym e))
-item_plain S k thread count act ns at left b (n.Assign slot) e = absurd (true_false (sym e))
-item_plain S k thread count act ns at left b (n.SetField name) e = absurd (true_false (sym e))
-item_plain S k thread count act ns at left b n.SetItem e = absurd (true_false (sym e))
-item_plain S k thread count act ns at left b a e = refl
+set_method_alike T S g thread count act b bound d w ns fs fr at (IntValue z) x params block place h = record { tag = refl; makes = refl; height = b; frames = fr; focus = refl }
+set_method_alike T S g thread count act b bound d w ns fs fr at (TruthValue z) x params block place h = record { tag = refl; makes = refl; height = b; frames = fr; focus = refl }
+set_method_alike T S g thread count act b bound d w ns fs fr at OkayValue x params block place h = record { tag = refl; makes = refl; height = b; frames = fr; focus = refl }
+set_method_alike T S g thread count act b bound d w ns fs fr at (TextValue z) x params block place h = record { tag = refl; makes = refl; height = b; frames = fr; focus = refl }
+set_method_alike T S g thread count act b bound d w ns fs fr at (ExceptionValue z) x params block place h = record { tag = refl; makes = refl; height = b; frames = fr; focus = refl }
+set_method_alike T S g thread count act b bound d w ns fs fr at (ThreadValue z) x params block place h = record { tag = refl; makes = refl; height = b; frames = fr; focus = refl }
+set_method_alike T S g thread count act b bound d w ns fs fr at (LocationValue Array z) x params block place h = record { tag = refl; makes = refl; height = b; frames = fr; focus = refl }
+set_method_alike T S g thread count act b bound d w ns fs fr at (LocationValue Variable z) x params block place h = record { tag = refl; makes = refl; height = b; frames = fr; focus = refl }
+set_method_alike T S g thread count act b bound d w ns fs fr at (LocationValue Writer z) x params block place h = record { tag = refl; makes = refl; height = b; frames = fr; focus = refl }
+set_method_alike T S g thread count act b bound d w ns fs fr at (LocationValue Condition z) x params block place h = record { tag = refl; makes = refl; height = b; frames = fr; focus = refl }
+set_method_alike T S g thread count act b bound d w ns fs fr at (LocationValue Engine z) x params block place h = record { tag = refl; makes = refl; height = b; frames = fr; focus = refl }
+set_method_alike T S g thread count act b bound d w ns fs fr at (ClosureValue t c group index cs) x params block place h = record { tag = refl; makes = refl; height = b; frames = fr; focus = refl }
 
 -- the frame for suffixes from a node on
 pub suffix_frames : {R : Type 0} → (T : Table R) (S : Store R) (act : Activation R) (b : ℕ) (bound : List (Bound R)) → IsBound act b bound → (ns : List (NodeFrame R)) (fs : List (TreeFrame R)) → FramesAre T S act b ns fs → (at : ℕ) (ss : SuffixTrees)
@@ -242,7 +181,12 @@ expr_alike T S g a thread count act b bound d w ns fs fr at (RaiseTree e place) 
 expr_alike T S g a thread count act b bound d w ns fs fr at (ChainTree e links) h = record { numbers = []; hint = tt; same = at_node T S act.code at (n.Chain (operators_of links)) (begin_node S a thread count act ns at b) _ (node_here T S h) (chain_alike T S g act b bound w ns fs fr at e links h) }
 expr_alike T S g a thread count act b bound d w ns fs fr at (ProcTree (AProc params block place)) h = record { numbers = h.nodes.0 ∷ []; hint = h.nodes.3; same = proc_alike T S g a thread count act b bound d w ns fs fr at params block place h }
 expr_alike T S g a thread count act b bound d w ns fs fr at (ArrayTree es place) h = record { numbers = []; hint = tt; same = at_node T S act.code at (n.Array (count_exprs es)) (begin_node S a thread count act ns at b) _ (node_here T S h) (args_alike T S g a act b bound w ns fs fr ToArray [] (suc at) es (next_here T S h)) }
-expr_alike T S g a thread count act b bound d w ns fs fr at (ObjectTree flags fields place) h = record { numbers = []; hint = tt; same = at_node T S act.code at (n.Object flags (field_names fields)) (begin_node S a thread count act ns at b) _ (node_here T S h) (inl (refl, refl)) }
+expr_alike T S g a thread count act b bound d w ns fs fr at (ObjectTree flags fields place) h = record {
+  numbers = [];
+  hint = tt;
+  same = at_node T S act.code at (n.Object flags (field_names fields)) (begin_node S a thread count act ns at b) _ (node_here T S h)
+      (fields_alike T S g act b bound w ns fs fr flags [] [] (suc at) fields refl (next_here T S h));
+}
 expr_alike T S g a thread count act b bound d w ns fs fr at (ForTree x m l block place) h = record {
   numbers = [];
   hint = tt;

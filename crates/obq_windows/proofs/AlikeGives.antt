@@ -13,17 +13,18 @@ use Rattle.obq_model.specs.Step.{Self}
 use Rattle.obq_model.specs.Terms.{Apply, Array, Bytes, Condition, Engine, Held, Index, Inner, Invoke, Mode, Object, Plain, Select, Variable, Writer}
 use Rattle.obq_model.proofs.Among.{true_false}
 use Rattle.obq_model.proofs.Drafted.{drafted_block, drafted_expr, drafted_suffix}
-use Rattle.obq_windows.specs.Agrees.{Agrees, Alike, FramesAre, IsBound, Same, StandsAt, place_at}
+use Rattle.obq_windows.specs.Agrees.{Agrees, FramesAre, IsBound, Same, StandsAt, place_at}
 use Rattle.obq_windows.specs.Moves.{begin_args, begin_arms, begin_binds, begin_count, begin_vars, begin_watch, count_at, give_and, give_field, give_foreach, give_guard, give_if, give_left, give_or, give_raise, give_suffix, give_testing, give_to, give_watch, leave_tree, next_count, with_links, with_suffixes}
 use Rattle.obq_windows.specs.Places.{Bound, bind_of, bound_names, outside_at, with_bound}
 use Rattle.obq_windows.specs.Trees.{Asks, BlockTask, ExprTask, Kept, KeptRaising, KeptValue, PendingChain, PendingCount, PendingEach, PendingGuard, PendingRight, PendingTesting, PlainEachSize, PlainGet, PlainLeave, PlainLineUp, Silent, Stepped, ToCall, ToIndex, ToInvoke, ToSetAlias, ToSetValue, TreeAct, TreeFrame, TreeHere, TreeMethod, TreeRaising, TreeRun, TreeScope, TreeTest, TreeUnmet, TreeValue, push, tree_moved, tree_raises}
 use Rattle.obq_windows.specs.Values.{ClosureValue, ExceptionValue, IntValue, LocationValue, OkayValue, PlainValue, Table, TextValue, ThreadValue, TruthValue}
 use Rattle.obq_windows.specs.Windows.{Activation, NodeAct, NodeChain, NodeCount, NodeEach, NodeFrame, NodeGuard, NodeHere, NodeMethod, NodeMoved, NodeRaising, NodeRight, NodeRun, NodeScope, NodeTest, NodeTesting, NodeUnmet, NodeValue, Store, args_node, begin_node_watch, bind, binds_node, count_node, count_node_at, give_node_and, give_node_field, give_node_foreach, give_node_guard, give_node_if, give_node_left, give_node_or, give_node_raise, give_node_suffix, give_node_testing, give_node_to, give_node_watch, guards_node, leave_node, next_count_node, node_at, node_moved, node_raises, operator_in, vars_node, with_operator, with_suffix}
-use Rattle.obq_windows.proofs.Alike.{arms_alike, at_node, expr_head, plain_node, suffix_frames}
+use Rattle.obq_windows.proofs.Alike.{arms_alike, suffix_frames}
 use Rattle.obq_windows.proofs.AlikeCalls.{alone, args_alike}
 use Rattle.obq_windows.proofs.AlikeItems.{binds_alike, respelled, vars_alike}
 use Rattle.obq_windows.proofs.Envs.{names_more}
 use Rattle.obq_windows.proofs.Frames.{bound_all, frames_kept, frames_up, place_kept}
+use Rattle.obq_windows.proofs.Heads.{at_node, expr_head, plain_node}
 use Rattle.obq_windows.proofs.Lists.{behind_here, item_here, past_end}
 use Rattle.obq_windows.proofs.Slots.{alike, behind_none, first_of, next_here, node_here, not_above, regrouped, second_of}
 
@@ -217,7 +218,7 @@ foreach_alike T S act b bound w ns fs fr child x block (LocationValue Array r) h
 -- the block of a `foreach` with an item
 pub item_alike : {R : Type 0} → (T : Table R) (S : Store R) (act : Activation R) (b : ℕ) (bound : List (Bound R)) → IsBound act b bound → (ns : List (NodeFrame R)) (fs : List (TreeFrame R)) → FramesAre T S act b ns fs → (child : ℕ) (x : Bytes) (block : BlockTree) (r : R) (i n : ℕ) (v : PlainValue R)
     → StandsAt T S act.code (draft_block (outside_at T (place_at act bound)) (bound_names bound ++ x ∷ []) block) child
-    → Alike T S (node_moved Silent (bind act b (v ∷ [])) (NodeEach r i n child b ∷ ns) (NodeRun child (suc b))) (tree_moved Silent (push (place_at act bound) (PendingEach r i n x block) fs) (TreeRun (with_bound (place_at act bound) (bind_of x v ∷ [])) (BlockTask block)))
+    → Same T S (node_moved Silent (bind act b (v ∷ [])) (NodeEach r i n child b ∷ ns) (NodeRun child (suc b))) (tree_moved Silent (push (place_at act bound) (PendingEach r i n x block) fs) (TreeRun (with_bound (place_at act bound) (bind_of x v ∷ [])) (BlockTask block)))
 item_alike {R} T S act b bound w ns fs fr child x block r i n v h = record {
   tag = refl;
   makes = refl;

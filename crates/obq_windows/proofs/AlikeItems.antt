@@ -1,7 +1,7 @@
 -- Items and blocks that begin, and values in frames: nodes and trees do the same.
 use Rattle.std.specs.Prelude.{Bool, List, [], codes, false, if◌then◌else◌, length, nat_lt, refl, suc, true, ℕ, ◌++◌, ◌+◌, ◌∷◌, ◌≡◌, ◌≤◌}
 use Rattle.obq_base.specs.declared.code.Node.TheVariants as n
-use Rattle.std.proofs.Common.{ap, arith, inl, inr, subst, sym, ◌∙◌}
+use Rattle.std.proofs.Common.{ap, arith, subst, sym, ◌∙◌}
 use Rattle.std.proofs.lemmas.List.{append-nil, append_assoc}
 use Rattle.obq_base.specs.Tree.{ABind, ARecBind, AnExpr, AnItem, AssignItem, BindTrees, BlockOf, BlockTree, ExprTree, FieldItem, IndexItem, ItemTree, ItemTrees, LetItem, LetRecItem, NoBinds, NoExprs, NoItems, NoRecBinds, PlainItem, RecBindTrees, VarItem}
 use Rattle.obq_base.specs.declared.code.CodeNo.{CodeNo}
@@ -23,10 +23,11 @@ use Rattle.obq_windows.specs.Places.{Bound, Place, bound_names, bound_values, ou
 use Rattle.obq_windows.specs.Trees.{ExprTask, ItemsTask, PendingAssign, PendingField, PendingLet, PendingThen, PendingVar, Silent, Stepped, Tag, ToSetIndex, TreeFrame, TreeMoved, TreeRun, TreeValue, push, tree_moved, tree_raises}
 use Rattle.obq_windows.specs.Values.{ClosureValue, OkayValue, PlainValues, Table, depth_of_values}
 use Rattle.obq_windows.specs.Windows.{Activation, NodeAssign, NodeField, NodeFrame, NodeItems, NodeLet, NodeMoved, NodeRun, NodeThen, NodeValue, NodeVar, Store, begin_node, bind, binds_node, group_values, item_node, items_node, node_at, node_closed, node_moved, node_raises, vars_node, with_item}
-use Rattle.obq_windows.proofs.Alike.{at_node, expr_alike, expr_head, item_plain}
+use Rattle.obq_windows.proofs.Alike.{expr_alike}
 use Rattle.obq_windows.proofs.AlikeCalls.{args_alike, as_triple}
 use Rattle.obq_windows.proofs.Closing.{member_bound_names, names_append}
 use Rattle.obq_windows.proofs.Frames.{bound_all, frames_kept, frames_up}
+use Rattle.obq_windows.proofs.Heads.{at_node, expr_head, item_plain}
 use Rattle.obq_windows.proofs.Lists.{item_here}
 use Rattle.obq_windows.proofs.Slots.{alike, capture_is, first_of, next_here, node_here, not_above, second_of}
 
@@ -105,8 +106,7 @@ group_length T u group (number ∷ numbers) i (ARecBind x q place bs) thread cou
 
 -- the same with a group that is made
 made_alike : {R : Type 0} → (T : Table R) (S : Store R) (m : NodeMoved R) (t : TreeMoved R) → Same T S m t → Same T S (node_closed m) (tree_closed t)
-made_alike T S m t (inl e) = inl e
-made_alike T S m t (inr k) = inr (record { tag = k.tag; makes = refl; height = k.height; frames = k.frames; focus = k.focus })
+made_alike T S m t k = record { tag = k.tag; makes = refl; height = k.height; frames = k.frames; focus = k.focus }
 
 letrec_alike : {R : Type 0} → (T : Table R) (S : Store R) → Agrees T S → (a thread count : ℕ) (act : Activation R) (b : ℕ) (bound : List (Bound R)) → PlaceLaw T (place_at act bound) → IsBound act b bound → (ns : List (NodeFrame R)) (fs : List (TreeFrame R)) → FramesAre T S act b ns fs → (at : ℕ) (bs : RecBindTrees) (place : ℕ) (is : ItemTrees)
     → (h : StandsAt T S act.code (draft_items (outside_at T (place_at act bound)) (bound_names bound) (AnItem (LetRecItem bs place) is)) at)

@@ -1,6 +1,6 @@
 -- What an act leaves at its form.
 use Rattle.std.specs.Prelude.{Bool, List, None, Option, Some, [], false, is_some, length, refl, slice_get, suc, true, unwrap_or, ℕ, ◌++◌, ◌∷◌, ◌≡◌}
-use Rattle.std.proofs.Common.{ap, inl, inr, subst, sym, ◌∙◌}
+use Rattle.std.proofs.Common.{ap, subst, sym, ◌∙◌}
 use Rattle.obq_base.specs.Tree.{AnItem, NoItems}
 use Rattle.obq_base.specs.declared.code.Code.{Code}
 use Rattle.obq_base.specs.declared.code.CodeNo.{CodeNo}
@@ -15,11 +15,11 @@ use Rattle.obq_model.specs.Terms.{Const, EachIn, End, Form, Object, Okay, Part, 
 use Rattle.obq_model.proofs.Among.{true_false}
 use Rattle.obq_model.proofs.Plug.{plug_append}
 use Rattle.obq_windows.specs.Acts.{AnswerCalled, AnswerForm, AnswerMethod, AnswerRaising, AnswerTest, AnswerValue, AnswersRead, CompleteAnswer, HasParameters, PlainAnswer, SelfIsOwn, Takes, answer_node, answer_tree, enter_node_code, enter_node_value, enter_tree, enter_tree_code, enter_tree_value, left_by, scope_of, test_at_node, test_at_tree, value_at_node, value_at_tree}
-use Rattle.obq_windows.specs.Agrees.{AfterIs, Agrees, Alike, FocusIs, FrameIs, FramesAre, Same, StandsAt, act_behind, height_behind}
+use Rattle.obq_windows.specs.Agrees.{AfterIs, Agrees, FocusIs, FrameIs, FramesAre, Same, StandsAt, act_behind, height_behind}
 use Rattle.obq_windows.specs.Complete.{AllComplete, CompleteAfter, CompleteFocus, CompleteFrames, CompleteOperation, CompletePending, CompletePlace, IsComplete, Knows}
 use Rattle.obq_windows.specs.Moves.{begin_vars}
 use Rattle.obq_windows.specs.Places.{Place, bind_of, outside_at, place_of, with_bound, zipped}
-use Rattle.obq_windows.specs.Trees.{BlockTask, ExprTask, GuardScope, ItemsTask, NameScope, NoScope, PendingCalled, PendingEach, PendingForm, PendingTesting, PendingWithin, PlainAgain, PlainBroadcast, PlainCloning, PlainEachItem, PlainEachSize, PlainExport, PlainForkOff, PlainGet, PlainGiveUp, PlainImport, PlainInvoke, PlainItemOf, PlainJoin, PlainLeave, PlainLineUp, PlainNewArray, PlainNewCondition, PlainNewEngine, PlainNewVariable, PlainOperation, PlainRead, PlainRedirect, PlainRunEngine, PlainSetAlias, PlainSetItem, PlainSetMethod, PlainSetValue, PlainSetVariable, PlainSignal, PlainSize, PlainWrite, ScopeKind, Silent, TreeAct, TreeAfter, TreeFocus, TreeFrame, TreeHere, TreeMethod, TreeMoved, TreeRaising, TreeRun, TreeScope, TreeTest, TreeUnder, TreeUnmet, TreeValue, act_form, block_at, expr_at, frames_of, kind_of, names_at, pending_frames, push, read_operation, scope_after, scope_at, term_of, tree_moved, vars_at}
+use Rattle.obq_windows.specs.Trees.{BlockTask, ExprTask, GuardScope, ItemsTask, NameScope, NoScope, PendingCalled, PendingEach, PendingForm, PendingTesting, PendingWithin, PlainAgain, PlainBroadcast, PlainCloning, PlainEachItem, PlainEachSize, PlainExport, PlainForkOff, PlainGet, PlainGiveUp, PlainImport, PlainInvoke, PlainItemOf, PlainJoin, PlainLeave, PlainLineUp, PlainNewArray, PlainNewCondition, PlainNewEngine, PlainNewVariable, PlainOperation, PlainRead, PlainRedirect, PlainRunEngine, PlainSetAlias, PlainSetItem, PlainSetMethod, PlainSetValue, PlainSetVariable, PlainSignal, PlainSize, PlainWrite, ScopeKind, Silent, TreeAct, TreeAfter, TreeCall, TreeFocus, TreeFrame, TreeHere, TreeMake, TreeMethod, TreeMoved, TreeRaising, TreeRun, TreeScope, TreeTest, TreeUnder, TreeUnmet, TreeValue, act_form, block_at, expr_at, frames_of, kind_of, names_at, pending_frames, push, read_operation, scope_after, scope_at, term_of, tree_moved, vars_at}
 use Rattle.obq_windows.specs.Values.{ClosureValue, ExceptionValue, IntValue, LocationValue, NoValues, OkayValue, PlainValue, Table, TextValue, ThreadValue, TruthValue, closure_of, proc_named, read_all, read_value, read_values}
 use Rattle.obq_windows.specs.Windows.{Activation, NodeAct, NodeAfter, NodeCalled, NodeEach, NodeFocus, NodeFrame, NodeMoved, NodeRun, NodeTesting, NodeWithin, Store, activation_of, bind, node_moved, vars_node}
 use Rattle.obq_windows.proofs.Acts.{Asked, act_asks}
@@ -31,7 +31,6 @@ use Rattle.obq_windows.proofs.Calls.{body_right}
 use Rattle.obq_windows.proofs.Frames.{frames_full}
 use Rattle.obq_windows.proofs.Gives.{block_entered, var_given}
 use Rattle.obq_windows.proofs.Keeps.{CompleteMoved, place_more, vars_kept, zipped_complete}
-use Rattle.obq_windows.proofs.Running.{is_left_out}
 use Rattle.obq_windows.proofs.Selves.{selfed}
 use Rattle.obq_windows.proofs.Slots.{not_above}
 use Rattle.obq_windows.proofs.Starting.{vars_start}
@@ -64,6 +63,8 @@ at_act T S act b op na (TreeValue v) h = not_act op na _ refl h
 at_act T S act b op na (TreeRaising r) h = not_act op na _ refl h
 at_act T S act b op na (TreeUnmet p e last) h = not_act op na _ refl h.1
 at_act T S act b op na (TreeMethod p v x q) h = not_act op na _ refl h.1
+at_act T S act b op na (TreeMake p flags done) h = not_act op na _ refl h.1
+at_act T S act b op na (TreeCall p f vs) h = not_act op na _ refl h.0
 at_act {R} T S act b op na (TreeAct op2 after) h = record {
   after = after;
   is_act = ap (λ (z : PlainOperation R). TreeAct z after) (ap (λ (z : NodeFocus R). unwrap_or (operation_at z) op) (sym h.1));
@@ -131,15 +132,10 @@ same_kind T op p (TreeScope q x b) e l = (l.0, e ∙ l.1)
 same_kind T op p (TreeTest q x) e l = (l.0, e ∙ l.1)
 
 -- what an answer makes of the two windows
-record Answered {R : Type 0} (T : Table R) (S : Store R) (m : NodeMoved R) (t : TreeMoved R) (u : Term R) : Type 0 where
-  same : Alike T S m t
-  complete : CompleteMoved T t
-  term : term_of T t.frames t.focus ≡ u
-
--- what does the same and is not left out is alike
-of_same : {R : Type 0} → (T : Table R) (S : Store R) (m : NodeMoved R) (t : TreeMoved R) → t.tag ≡ Silent → Same T S m t → Alike T S m t
-of_same T S m t e (inl (q, k)) = absurd (true_false (ap is_left_out (sym k ∙ e)))
-of_same T S m t e (inr k) = k
+pub record Answered {R : Type 0} (T : Table R) (S : Store R) (m : NodeMoved R) (t : TreeMoved R) (u : Term R) : Type 0 where
+  pub same : Same T S m t
+  pub complete : CompleteMoved T t
+  pub term : term_of T t.frames t.focus ≡ u
 
 -- a new variable goes under its name
 variable_answered : {R : Type 0} → (T : Table R) (S : Store R) → Agrees T S → (act : Activation R) (b : ℕ) (ns : List (NodeFrame R)) (fs : List (TreeFrame R)) → FramesAre T S act b ns fs → CompleteFrames T fs → (u : PlainValue R) (na : NodeAfter) (after : TreeAfter R) → AfterIs T S act b na after → CompleteAfter T (PlainNewVariable u) after
@@ -148,10 +144,9 @@ variable_answered {R} T S g act b ns fs fr k u na TreeHere h l v c = absurd (tru
 variable_answered {R} T S g act b ns fs fr k u na (TreeUnder p x bs is) h l v c =
     subst (λ (z : NodeAfter). Answered T S (value_at_node S (PlainNewVariable u) z v act ns) (begin_vars Silent (with_bound p (bind_of x v ∷ [])) bs is fs) (plug (frames_of T fs) (enter (read_value T v ∷ []) (vars_at T p x bs is)))) (sym h.2)
     (record {
-      same = of_same T S _ _ (vars_start T fs Silent (with_bound p (bind_of x v ∷ [])) bs is).tag_is
-          (subst (λ (z : Place R). Same T S (vars_node S Silent (bind act b (v ∷ [])) ns h.0 (count_binds bs) h.1 (count_items is) (suc b)) (begin_vars Silent (with_bound z (bind_of x v ∷ [])) bs is fs)) (sym h.3.1)
+      same = subst (λ (z : Place R). Same T S (vars_node S Silent (bind act b (v ∷ [])) ns h.0 (count_binds bs) h.1 (count_items is) (suc b)) (begin_vars Silent (with_bound z (bind_of x v ∷ [])) bs is fs)) (sym h.3.1)
           (var_alike T S g act b h.3.0 h.3.2 ns fs fr h.0 h.1 x bs is v
-          (subst (λ (z : Place R). StandsAt T S z.code (draft_binds (outside_at T z) (names_at z ++ x ∷ []) bs) h.0) h.3.1 h.4) (subst (λ (z : Place R). StandsAt T S z.code (draft_items (outside_at T z) ((names_at z ++ x ∷ []) ++ bind_names bs) is) h.1) h.3.1 h.5)));
+          (subst (λ (z : Place R). StandsAt T S z.code (draft_binds (outside_at T z) (names_at z ++ x ∷ []) bs) h.0) h.3.1 h.4) (subst (λ (z : Place R). StandsAt T S z.code (draft_items (outside_at T z) ((names_at z ++ x ∷ []) ++ bind_names bs) is) h.1) h.3.1 h.5));
       complete = vars_kept T Silent (with_bound p (bind_of x v ∷ [])) bs is fs (place_more T p (bind_of x v ∷ []) l.0 (c, tt)) k;
       term = sym (whole T fs _ _ _ (vars_start T fs Silent (with_bound p (bind_of x v ∷ [])) bs is).leads) ∙ ap (plug (frames_of T fs)) (sym (var_given T p x v bs is));
     })
@@ -167,7 +162,7 @@ item_answered T S g act b ns fs fr k r i n na (TreeTest p e) h l v c = absurd (t
 item_answered {R} T S g act b ns fs fr k r i n na (TreeScope p x block) h l v c =
     subst (λ (z : NodeAfter). Answered T S (value_at_node S (PlainEachItem r i n) z v act ns) (tree_moved Silent (push p (PendingEach r i n x block) fs) (TreeRun (with_bound p (bind_of x v ∷ [])) (BlockTask block))) (plug (frames_of T fs) (Form (EachIn r i n) (Part (enter (read_value T v ∷ []) (scope_at T p x block)) (Part (scope_at T p x block) End))))) (sym h.1)
     (record {
-      same = subst (λ (z : Place R). Alike T S (node_moved Silent (bind act b (v ∷ [])) (NodeEach r i n h.0 b ∷ ns) (NodeRun h.0 (suc b))) (tree_moved Silent (push z (PendingEach r i n x block) fs) (TreeRun (with_bound z (bind_of x v ∷ [])) (BlockTask block)))) (sym h.2.1)
+      same = subst (λ (z : Place R). Same T S (node_moved Silent (bind act b (v ∷ [])) (NodeEach r i n h.0 b ∷ ns) (NodeRun h.0 (suc b))) (tree_moved Silent (push z (PendingEach r i n x block) fs) (TreeRun (with_bound z (bind_of x v ∷ [])) (BlockTask block)))) (sym h.2.1)
           (item_alike T S act b h.2.0 h.2.2 ns fs fr h.0 x block r i n v (subst (λ (z : Place R). StandsAt T S z.code (draft_block (outside_at T z) (names_at z ++ x ∷ []) block) h.0) h.2.1 h.3));
       complete = record { frames = (l.0, tt, k); focus = place_more T p (bind_of x v ∷ []) l.0 (c, tt) };
       term = plug_append (frames_of T fs) (pending_frames T p (PendingEach r i n x block)) _ ∙ ap (λ (u : Term R). plug (frames_of T fs) (Form (EachIn r i n) (Part u (Part (scope_at T p x block) End)))) (sym (block_entered T p x v block));
@@ -258,14 +253,14 @@ test_answered T S act b ns fs fr k (PlainJoin t) na after h l = record { same = 
 test_answered T S act b ns fs fr k (PlainNewVariable u) na after h l = record { same = record { tag = refl; makes = refl; height = b; frames = fr; focus = refl }; complete = record { frames = k; focus = tt }; term = refl }
 
 -- what stands around a body that is entered
-record Caller {R : Type 0} (T : Table R) (S : Store R) (act : Activation R) (f : NodeFrame R) (pending : PendingForm R) : Type 0 where
-  is_frame : (z : Activation R) (b : ℕ) (p : Place R) → FrameIs T S z b f p pending
-  back : (z : Activation R) → act_behind z f ≡ act
-  low : (b : ℕ) → height_behind b f ≡ length act.locals
-  complete : CompletePending T pending
-  same_frames : (p q : Place R) → pending_frames T p pending ≡ pending_frames T q pending
+pub record Caller {R : Type 0} (T : Table R) (S : Store R) (act : Activation R) (f : NodeFrame R) (pending : PendingForm R) : Type 0 where
+  pub is_frame : (z : Activation R) (b : ℕ) (p : Place R) → FrameIs T S z b f p pending
+  pub back : (z : Activation R) → act_behind z f ≡ act
+  pub low : (b : ℕ) → height_behind b f ≡ length act.locals
+  pub complete : CompletePending T pending
+  pub same_frames : (p q : Place R) → pending_frames T p pending ≡ pending_frames T q pending
 
-entered_answer : {R : Type 0} → (T : Table R) (S : Store R) → Agrees T S → (act : Activation R) (b : ℕ) (ns : List (NodeFrame R)) (fs : List (TreeFrame R)) → FramesAre T S act b ns fs → CompleteFrames T fs → (f : NodeFrame R) (pending : PendingForm R) → Caller T S act f pending → (around : Place R)
+pub entered_answer : {R : Type 0} → (T : Table R) (S : Store R) → Agrees T S → (act : Activation R) (b : ℕ) (ns : List (NodeFrame R)) (fs : List (TreeFrame R)) → FramesAre T S act b ns fs → CompleteFrames T fs → (f : NodeFrame R) (pending : PendingForm R) → Caller T S act f pending → (around : Place R)
     → (m : PlainValue R) (vs : List (PlainValue R)) → IsComplete T m → AllComplete T vs → Takes T m vs
     → Answered T S (enter_node_value f m vs act ns) (enter_tree_value T pending m vs fs) (plug (frames_of T fs) (plug (pending_frames T around pending) (body_with (read_value T m) (read_all T vs))))
 entered_answer {R} T S g act b ns fs fr k f pending caller around (ClosureValue thread count group index cs) vs c d t = by_code (slice_get group index) c.0 t where

@@ -6,7 +6,7 @@ use Rattle.obq_base.specs.Tree.{ALink, ASuffix, AliasOf, ApplySuffix, ExprTree, 
 use Rattle.obq_base.specs.declared.trees.Operator.{Operator}
 use Rattle.obq_model.specs.Frames.{AreFrames, IsFrame, LetPass, is_stop}
 use Rattle.obq_model.specs.Opened.{open_chain, open_expr, open_field, open_suffix, open_suffixes}
-use Rattle.obq_model.specs.Opening.{linked}
+use Rattle.obq_model.specs.Opening.{layout_of, linked}
 use Rattle.obq_model.specs.Reading.{read}
 use Rattle.obq_model.specs.Step.{Found, Frame, Needs, Next, Pending, Self, activations_at, fill, find, is_operand, plug, self_at}
 use Rattle.obq_model.specs.Terms.{Assign, Bytes, Called, Choosing, Counting, EachIn, End, Finally, Finishing, For, Foreach, Form, If, Kind, Let, Looping, Part, Parts, Raise, SetMethod, Term, Testing, Then, Try, Var, Watch, Within}
@@ -14,8 +14,9 @@ use Rattle.obq_model.proofs.Plug.{frames_append, needs_plug, plug_append, step_p
 use Rattle.obq_windows.specs.Meanings.{Means, Moves}
 use Rattle.obq_windows.specs.Moves.{with_links, with_suffixes}
 use Rattle.obq_windows.specs.Places.{Place, env_at, outside_at, writer_at}
-use Rattle.obq_windows.specs.Trees.{Asks, Callee, PendingArguments, PendingAssign, PendingCalled, PendingChain, PendingCount, PendingEach, PendingField, PendingFirst, PendingForeach, PendingForm, PendingGuard, PendingHead, PendingIf, PendingKept, PendingLast, PendingLet, PendingLoop, PendingRaise, PendingRight, PendingTesting, PendingThen, PendingTo, PendingTry, PendingVar, PendingWatch, PendingWithin, PlainOperation, Silent, Stepped, Tag, ToArray, ToBuiltin, ToCall, ToClone, ToIndex, ToInvoke, ToRedirect, ToSetAlias, ToSetIndex, ToSetValue, TreeAct, TreeAfter, TreeFocus, TreeFrame, TreeMoved, callee_frame, expr_at, exprs_at, field_frame, focus_term, frames_of, link_frame, linked_kind, links_around, names_at, pending_frames, push, read_operation, scope_after, suffix_frame, suffixes_around, term_of, tree_moved}
+use Rattle.obq_windows.specs.Trees.{Asks, Callee, PendingArguments, PendingAssign, PendingCalled, PendingChain, PendingCount, PendingEach, PendingField, PendingFirst, PendingForeach, PendingForm, PendingGuard, PendingHead, PendingIf, PendingKept, PendingLast, PendingLet, PendingLoop, PendingObject, PendingRaise, PendingRight, PendingTesting, PendingThen, PendingTo, PendingTry, PendingVar, PendingWatch, PendingWithin, PlainOperation, Silent, Stepped, Tag, ToArray, ToBuiltin, ToCall, ToClone, ToIndex, ToInvoke, ToRedirect, ToSetAlias, ToSetIndex, ToSetValue, TreeAct, TreeAfter, TreeFocus, TreeFrame, TreeMoved, callee_frame, expr_at, exprs_at, field_frame, fields_at, focus_term, frames_of, link_frame, linked_kind, links_around, names_at, pending_frames, push, read_operation, scope_after, suffix_frame, suffixes_around, term_of, tree_moved}
 use Rattle.obq_windows.specs.Values.{PlainValue, Table}
+use Rattle.obq_windows.proofs.Layouts.{literal_frame}
 
 -- a frame whose hole is its first part
 first_hole : {R : Type 0} → (k : Kind R) (after : Parts R) → is_operand k 0 ≡ true → IsFrame (Pending k [] after)
@@ -69,6 +70,7 @@ field_is_frame T p x (AliasOf y e place) = λ i l. refl
 pub pend_are_frames : {R : Type 0} → (T : Table R) (p : Place R) (pending : PendingForm R) → AreFrames (pending_frames T p pending)
 pend_are_frames {R} T p (PendingThen is) = (first_hole {R = R} Then End refl, tt)
 pend_are_frames {R} T p (PendingLet x bs is) = (first_hole {R = R} Let End refl, tt)
+pend_are_frames T p (PendingObject flags done x other fields) = (literal_frame T done flags x other (layout_of fields) (fields_at T p done fields), tt)
 pend_are_frames {R} T p (PendingVar x bs is) = (first_hole {R = R} Var End refl, tt)
 pend_are_frames {R} T p (PendingIf b arms last) = (first_hole {R = R} If End refl, tt)
 pend_are_frames T p (PendingChain op e links) = frames_append _ _ (links_are_frames T p links) (first_hole (linked_kind op) (Part (expr_at T p e) End) (linked_operand _ op), tt)

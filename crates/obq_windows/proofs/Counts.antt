@@ -8,7 +8,7 @@ use Rattle.obq_model.specs.Terms.{Bytes}
 use Rattle.obq_model.proofs.Plug.{activations_append}
 use Rattle.obq_windows.specs.Moves.{count_activations, is_activation}
 use Rattle.obq_windows.specs.Places.{Place}
-use Rattle.obq_windows.specs.Trees.{PendingArguments, PendingAssign, PendingCalled, PendingChain, PendingCount, PendingEach, PendingField, PendingFirst, PendingForeach, PendingForm, PendingGuard, PendingHead, PendingIf, PendingKept, PendingLast, PendingLet, PendingLoop, PendingRaise, PendingRight, PendingTesting, PendingThen, PendingTo, PendingTry, PendingVar, PendingWatch, PendingWithin, ToArray, ToBuiltin, ToCall, ToClone, ToIndex, ToInvoke, ToRedirect, ToSetAlias, ToSetIndex, ToSetValue, TreeFrame, field_frame, frames_of, link_frame, links_around, pending_frames, suffix_frame, suffixes_around}
+use Rattle.obq_windows.specs.Trees.{PendingArguments, PendingAssign, PendingCalled, PendingChain, PendingCount, PendingEach, PendingField, PendingFirst, PendingForeach, PendingForm, PendingGuard, PendingHead, PendingIf, PendingKept, PendingLast, PendingLet, PendingLoop, PendingObject, PendingRaise, PendingRight, PendingTesting, PendingThen, PendingTo, PendingTry, PendingVar, PendingWatch, PendingWithin, ToArray, ToBuiltin, ToCall, ToClone, ToIndex, ToInvoke, ToRedirect, ToSetAlias, ToSetIndex, ToSetValue, TreeFrame, field_frame, frames_of, link_frame, links_around, pending_frames, suffix_frame, suffixes_around}
 use Rattle.obq_windows.specs.Values.{Table}
 
 count_links : {R : Type 0} → (T : Table R) (a : ℕ) (p : Place R) (links : LinkTrees) → activations_at a (links_around T p links) ≡ a
@@ -37,6 +37,7 @@ count_field T n p x (AliasOf y e place) = refl
 count_pend : {R : Type 0} → (T : Table R) (a : ℕ) (p : Place R) (pending : PendingForm R) → activations_at a (pending_frames T p pending) ≡ (if is_activation pending then suc a else a)
 count_pend T a p (PendingThen is) = refl
 count_pend T a p (PendingLet x bs is) = refl
+count_pend T a p (PendingObject flags done x other fields) = refl
 count_pend T a p (PendingVar x bs is) = refl
 count_pend T a p (PendingIf b arms last) = refl
 count_pend T a p (PendingChain op e links) = count_links T a p (ALink op e 0 links)

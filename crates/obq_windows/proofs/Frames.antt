@@ -6,9 +6,9 @@ use Rattle.obq_base.specs.Tree.{AnItem, NoItems}
 use Rattle.obq_model.specs.Effect.{kept}
 use Rattle.obq_windows.specs.Agrees.{FrameIs, FramesAre, IsBound, PlaceIs, act_behind, height_behind}
 use Rattle.obq_windows.specs.Places.{Bound, Place, bound_values}
-use Rattle.obq_windows.specs.Trees.{PendingArguments, PendingAssign, PendingCalled, PendingChain, PendingCount, PendingEach, PendingField, PendingFirst, PendingForeach, PendingForm, PendingGuard, PendingHead, PendingIf, PendingKept, PendingLast, PendingLet, PendingLoop, PendingRaise, PendingRight, PendingTesting, PendingThen, PendingTo, PendingTry, PendingVar, PendingWatch, PendingWithin, TreeFrame}
+use Rattle.obq_windows.specs.Trees.{PendingArguments, PendingAssign, PendingCalled, PendingChain, PendingCount, PendingEach, PendingField, PendingFirst, PendingForeach, PendingForm, PendingGuard, PendingHead, PendingIf, PendingKept, PendingLast, PendingLet, PendingLoop, PendingObject, PendingRaise, PendingRight, PendingTesting, PendingThen, PendingTo, PendingTry, PendingVar, PendingWatch, PendingWithin, TreeFrame}
 use Rattle.obq_windows.specs.Values.{PlainValue, Table}
-use Rattle.obq_windows.specs.Windows.{Activation, NodeArguments, NodeAssign, NodeCalled, NodeChain, NodeCount, NodeEach, NodeField, NodeFirst, NodeForeach, NodeFrame, NodeGuard, NodeHead, NodeIf, NodeKept, NodeLast, NodeLet, NodeLoop, NodeRaise, NodeRight, NodeTesting, NodeThen, NodeTo, NodeTry, NodeVar, NodeWatch, NodeWithin, Store, bind}
+use Rattle.obq_windows.specs.Windows.{Activation, NodeArguments, NodeAssign, NodeCalled, NodeChain, NodeCount, NodeEach, NodeField, NodeFirst, NodeForeach, NodeFrame, NodeGuard, NodeHead, NodeIf, NodeKept, NodeLast, NodeLet, NodeLoop, NodeObject, NodeRaise, NodeRight, NodeTesting, NodeThen, NodeTo, NodeTry, NodeVar, NodeWatch, NodeWithin, Store, bind}
 
 -- ---- more binders in force
 
@@ -19,6 +19,7 @@ frame_up : {R : Type 0} → (T : Table R) (S : Store R) (act : Activation R) (b 
 frame_up T S act b c f p (PendingThen NoItems) l h = absurd h
 frame_up T S act b c f p (PendingThen (AnItem i is)) l h = (h.0, h.1, h.2, at_most _ b c h.3 l, h.4, h.5)
 frame_up T S act b c f p (PendingLet x bs is) l h = (h.0, h.1, h.2, h.3, at_most _ b c h.4 l, h.5, h.6, h.7)
+frame_up T S act b c f p (PendingObject flags done x other fields) l h = (h.0, h.1, h.2, h.3, at_most _ b c h.4 l, h.5, h.6, h.7)
 frame_up T S act b c f p (PendingVar x bs is) l h = (h.0, h.1, h.2, h.3, at_most _ b c h.4 l, h.5, h.6, h.7)
 frame_up T S act b c f p (PendingIf block arms last) l h = (h.0, h.1, h.2, at_most _ b c h.3 l, h.4, h.5)
 frame_up T S act b c f p (PendingChain op e links) l h = (h.0, h.1, h.2, h.3, h.4, at_most _ b c h.5 l, h.6, h.7, h.8, h.9, h.10)
@@ -46,6 +47,7 @@ frame_up T S act b c f p (PendingForeach x block) l h = (h.0, h.1, h.2, at_most 
 heights : {R : Type 0} → (b c : ℕ) (f : NodeFrame R) → (height_behind b f ≡ height_behind c f) ⊎ ((height_behind b f ≡ b) × (c ≡ height_behind c f))
 heights b c (NodeThen at left h) = inl refl
 heights b c (NodeLet child left at items h) = inl refl
+heights b c (NodeObject flags done x other names child h) = inl refl
 heights b c (NodeVar child left at items h) = inl refl
 heights b c (NodeIf child arms last h) = inl refl
 heights b c (NodeChain chain index child h) = inl refl
@@ -106,6 +108,7 @@ frame_kept : {R : Type 0} → (T : Table R) (S : Store R) (act : Activation R) (
 frame_kept T S act b h vs f p (PendingThen NoItems) l k = absurd k
 frame_kept T S act b h vs f p (PendingThen (AnItem i is)) l k = (k.0, k.1, k.2, k.3, place_kept act _ h vs p (at_most _ b h k.3 l) k.4, k.5)
 frame_kept T S act b h vs f p (PendingLet x bs is) l k = (k.0, k.1, k.2, k.3, k.4, place_kept act _ h vs p (at_most _ b h k.4 l) k.5, k.6, k.7)
+frame_kept T S act b h vs f p (PendingObject flags done x other fields) l k = (k.0, k.1, k.2, k.3, k.4, place_kept act _ h vs p (at_most _ b h k.4 l) k.5, k.6, k.7)
 frame_kept T S act b h vs f p (PendingVar x bs is) l k = (k.0, k.1, k.2, k.3, k.4, place_kept act _ h vs p (at_most _ b h k.4 l) k.5, k.6, k.7)
 frame_kept T S act b h vs f p (PendingIf block arms last) l k = (k.0, k.1, k.2, k.3, place_kept act _ h vs p (at_most _ b h k.3 l) k.4, k.5)
 frame_kept T S act b h vs f p (PendingChain op e links) l k = (k.0, k.1, k.2, k.3, k.4, k.5, place_kept act _ h vs p (at_most _ b h k.5 l) k.6, k.7, k.8, k.9, k.10)
@@ -135,6 +138,7 @@ frame_low : {R : Type 0} → (T : Table R) (S : Store R) (act : Activation R) (b
 frame_low T S act b f p (PendingThen NoItems) k = absurd k
 frame_low {R} T S act b f p (PendingThen (AnItem i is)) k = inl (subst (λ (z : NodeFrame R). height_behind b z ≤ b) (sym k.2) k.3)
 frame_low {R} T S act b f p (PendingLet x bs is) k = inl (subst (λ (z : NodeFrame R). height_behind b z ≤ b) (sym k.3) k.4)
+frame_low {R} T S act b f p (PendingObject flags done x other fields) k = inl (subst (λ (z : NodeFrame R). height_behind b z ≤ b) (sym k.3) k.4)
 frame_low {R} T S act b f p (PendingVar x bs is) k = inl (subst (λ (z : NodeFrame R). height_behind b z ≤ b) (sym k.3) k.4)
 frame_low {R} T S act b f p (PendingIf block arms last) k = inl (subst (λ (z : NodeFrame R). height_behind b z ≤ b) (sym k.2) k.3)
 frame_low {R} T S act b f p (PendingChain op e links) k = inl (subst (λ (z : NodeFrame R). height_behind b z ≤ b) (sym k.4) k.5)
@@ -162,6 +166,7 @@ frame_low {R} T S act b f p (PendingForeach x block) k = inl (subst (λ (z : Nod
 acts : {R : Type 0} → (act : Activation R) (h : ℕ) (vs : List (PlainValue R)) (f : NodeFrame R) → ((act_behind act f ≡ act) × (bind act h vs ≡ act_behind (bind act h vs) f)) ⊎ (act_behind act f ≡ act_behind (bind act h vs) f)
 acts act h vs (NodeThen at left hh) = inl (refl, refl)
 acts act h vs (NodeLet child left at items hh) = inl (refl, refl)
+acts act h vs (NodeObject flags done x other names child hh) = inl (refl, refl)
 acts act h vs (NodeVar child left at items hh) = inl (refl, refl)
 acts act h vs (NodeIf child arms last hh) = inl (refl, refl)
 acts act h vs (NodeChain chain index child hh) = inl (refl, refl)
@@ -239,6 +244,7 @@ frame_full : {R : Type 0} → (T : Table R) (S : Store R) (act : Activation R) (
 frame_full T S act b f p (PendingThen NoItems) h = absurd h
 frame_full T S act b f p (PendingThen (AnItem i is)) h = (h.0, h.1, h.2, in_force act _ h.4.0 h.4.2, h.4, h.5)
 frame_full T S act b f p (PendingLet x bs is) h = (h.0, h.1, h.2, h.3, in_force act _ h.5.0 h.5.2, h.5, h.6, h.7)
+frame_full T S act b f p (PendingObject flags done x other fields) h = (h.0, h.1, h.2, h.3, in_force act _ h.5.0 h.5.2, h.5, h.6, h.7)
 frame_full T S act b f p (PendingVar x bs is) h = (h.0, h.1, h.2, h.3, in_force act _ h.5.0 h.5.2, h.5, h.6, h.7)
 frame_full T S act b f p (PendingIf block arms last) h = (h.0, h.1, h.2, in_force act _ h.4.0 h.4.2, h.4, h.5)
 frame_full T S act b f p (PendingChain op e links) h = (h.0, h.1, h.2, h.3, h.4, in_force act _ h.6.0 h.6.2, h.6, h.7, h.8, h.9, h.10)
@@ -266,6 +272,7 @@ frame_full T S act b f p (PendingForeach x block) h = (h.0, h.1, h.2, in_force a
 heights_in : {R : Type 0} → (act : Activation R) (b c : ℕ) (f : NodeFrame R) → (height_behind b f ≡ height_behind c f) ⊎ ((height_behind b f ≡ b) × (c ≡ height_behind c f) × (act_behind act f ≡ act))
 heights_in act b c (NodeThen at left h) = inl refl
 heights_in act b c (NodeLet child left at items h) = inl refl
+heights_in act b c (NodeObject flags done x other names child h) = inl refl
 heights_in act b c (NodeVar child left at items h) = inl refl
 heights_in act b c (NodeIf child arms last h) = inl refl
 heights_in act b c (NodeChain chain index child h) = inl refl

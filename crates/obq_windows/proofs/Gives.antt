@@ -13,16 +13,18 @@ use Rattle.obq_model.specs.Step.{Frame, Next, Self, activations_at, choose, coun
 use Rattle.obq_model.specs.Terms.{AndIf, Apply, Array, Bytes, Call, Choosing, Clone, Condition, Const, Counting, End, Engine, Exc, For, Foreach, Form, Held, If, Index, Inner, Int, Invoke, Kind, Let, Loc, MakeArray, Mode, Object, Okay, OrIf, Part, Parts, Plain, Raise, Redirect, Select, SetAlias, SetIndex, SetValue, Term, Testing, Truth, Try, Under, Value, Var, Variable, Watch, Within, Writer}
 use Rattle.obq_model.proofs.Plug.{plug_append}
 use Rattle.obq_model.proofs.PutRead.{put_read}
+use Rattle.obq_windows.specs.Literals.{done_with}
 use Rattle.obq_windows.specs.Meanings.{Moves}
-use Rattle.obq_windows.specs.Moves.{begin_args, begin_arms, begin_binds, begin_count, begin_if, begin_rest, begin_watch, count_activations, count_at, give_and, give_field, give_foreach, give_guard, give_if, give_left, give_or, give_pending, give_raise, give_suffix, give_testing, give_to, give_watch, going_on, leave_tree, next_count, target_value, tree_result, tree_self, with_links, with_suffixes}
+use Rattle.obq_windows.specs.Moves.{begin_args, begin_arms, begin_binds, begin_count, begin_fields, begin_if, begin_rest, begin_watch, count_activations, count_at, give_and, give_field, give_foreach, give_guard, give_if, give_left, give_or, give_pending, give_raise, give_suffix, give_testing, give_to, give_watch, going_on, leave_tree, next_count, target_value, tree_result, tree_self, with_links, with_suffixes}
 use Rattle.obq_windows.specs.Places.{Place, bind_of, env_at, outside_at, with_bound, writer_at}
 use Rattle.obq_windows.specs.Results.{assigned, operated}
-use Rattle.obq_windows.specs.Trees.{Asks, BlockTask, Callee, ExprTask, Kept, KeptRaising, KeptValue, PendingArguments, PendingAssign, PendingCalled, PendingChain, PendingCount, PendingEach, PendingField, PendingFirst, PendingForeach, PendingForm, PendingGuard, PendingHead, PendingIf, PendingKept, PendingLast, PendingLet, PendingLoop, PendingRaise, PendingRight, PendingTesting, PendingThen, PendingTo, PendingTry, PendingVar, PendingWatch, PendingWithin, PlainEachItem, PlainEachSize, PlainGet, PlainLeave, PlainLineUp, PlainNewVariable, Silent, Stepped, ToArray, ToBuiltin, ToCall, ToClone, ToIndex, ToInvoke, ToRedirect, ToSetAlias, ToSetIndex, ToSetValue, TreeAct, TreeFrame, TreeHere, TreeMethod, TreeRaising, TreeRun, TreeScope, TreeTest, TreeUnder, TreeUnmet, TreeValue, arms_at, block_at, callee_frame, expr_at, exprs_at, field_frame, frames_of, if_at, kept_term, let_at, link_frame, linked_kind, links_around, names_at, pending_frames, push, scope_at, suffix_frame, suffixes_around, tree_moved, tree_raises, vars_at}
+use Rattle.obq_windows.specs.Trees.{Asks, BlockTask, Callee, ExprTask, Kept, KeptRaising, KeptValue, PendingArguments, PendingAssign, PendingCalled, PendingChain, PendingCount, PendingEach, PendingField, PendingFirst, PendingForeach, PendingForm, PendingGuard, PendingHead, PendingIf, PendingKept, PendingLast, PendingLet, PendingLoop, PendingObject, PendingRaise, PendingRight, PendingTesting, PendingThen, PendingTo, PendingTry, PendingVar, PendingWatch, PendingWithin, PlainEachItem, PlainEachSize, PlainGet, PlainLeave, PlainLineUp, PlainNewVariable, Silent, Stepped, ToArray, ToBuiltin, ToCall, ToClone, ToIndex, ToInvoke, ToRedirect, ToSetAlias, ToSetIndex, ToSetValue, TreeAct, TreeFrame, TreeHere, TreeMethod, TreeRaising, TreeRun, TreeScope, TreeTest, TreeUnder, TreeUnmet, TreeValue, arms_at, block_at, callee_frame, expr_at, exprs_at, field_frame, frames_of, if_at, kept_term, let_at, link_frame, linked_kind, links_around, names_at, pending_frames, push, scope_at, suffix_frame, suffixes_around, tree_moved, tree_raises, vars_at}
 use Rattle.obq_windows.specs.Values.{ClosureValue, ExceptionValue, IntValue, IsMadeTable, LocationValue, OkayValue, PlainValue, Table, TextValue, ThreadValue, TruthValue, proc_of, read_all, read_value, read_values}
 use Rattle.obq_windows.proofs.Around.{asks, found_in, here, links_frames, pushed, silent, stepped, suffixes_frames, to_here, to_pushed}
 use Rattle.obq_windows.proofs.Begins.{args_right, callee_form, of_term, result_right, suffix_args}
 use Rattle.obq_windows.proofs.Closing.{rest_starts}
 use Rattle.obq_windows.proofs.Envs.{bound_more, names_more}
+use Rattle.obq_windows.proofs.Literals.{operand_given}
 use Rattle.obq_windows.proofs.Operators.{operated_is}
 use Rattle.obq_windows.proofs.Results.{closure_cases}
 use Rattle.obq_windows.proofs.Selves.{selfed}
@@ -325,6 +327,7 @@ given eq T a s w v p (PendingKept (KeptValue u)) fs = of_term eq T a s _ _ (tree
 given eq T a s w v p (PendingKept (KeptRaising r)) fs = of_term eq T a s _ _ (tree_moved Stepped fs (TreeRaising r)) (one_frame T fs _ _) (to_here eq T a s fs _ (TreeRaising r) refl)
 given eq T a s w v p (PendingAssign x) fs = of_term eq T a s _ _ (tree_result (assigned (target_value T p x) v) fs) (one_frame T fs _ _) (result_right eq T a s fs _ _ (assigned (target_value T p x) v) refl (target_is eq T (activations_at a (frames_of T fs)) (self_at s (frames_of T fs)) p x v))
 given eq T a s w v p (PendingField x body) fs = of_term eq T a s _ _ (give_field T (count_activations a fs) v p x body fs) (one_frame T fs _ _) (field_given eq T a s w v p x body fs)
+given eq T a s w v p (PendingObject flags done x other fields) fs = of_term eq T a s _ _ (begin_fields p flags (done ++ done_with x other v ∷ []) fields fs) (one_frame T fs _ _) (operand_given eq T a s v p flags done x other fields fs)
 given eq T a s w v p (PendingFirst x n b) fs = of_term eq T a s _ _ (tree_moved Silent (push p (PendingTo v x b) fs) (TreeRun p (ExprTask n))) (one_frame T fs _ _) (silent eq T a s fs _ (tree_moved Silent (push p (PendingTo v x b) fs) (TreeRun p (ExprTask n))) (record { tag_is = refl; leads = pushed T fs p (PendingTo v x b) (TreeRun p (ExprTask n)) _ refl }))
 given eq T a s w v p (PendingTo first x b) fs = of_term eq T a s _ _ (give_to first v p x b fs) (one_frame T fs _ _) (to_given eq T a s first v p x b fs)
 given eq T a s w v p (PendingCount i n x b) fs = of_term eq T a s _ _ (next_count p i n x b fs) (one_frame T fs _ _) (next_right eq T a s fs _ p i n x b refl)

@@ -3,6 +3,7 @@ pub mod Alike
 pub mod AlikeCalls
 pub mod AlikeGives
 pub mod AlikeItems
+pub mod AlikeLiterals
 pub mod AlikeMoves
 pub mod Answering
 pub mod Around
@@ -14,11 +15,16 @@ pub mod Counts
 pub mod Depths
 pub mod Envs
 pub mod Example
+pub mod FirstWindows
 pub mod Frames
 pub mod Gives
+pub mod Heads
 pub mod Keeps
+pub mod KeepsLiterals
+pub mod Layouts
 pub mod KeepsResults
 pub mod Lists
+pub mod Literals
 pub mod Members
 pub mod Openings
 pub mod Operators

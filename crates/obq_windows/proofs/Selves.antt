@@ -8,7 +8,7 @@ use Rattle.obq_model.specs.Terms.{Bytes}
 use Rattle.obq_model.proofs.Plug.{self_append}
 use Rattle.obq_windows.specs.Moves.{self_by, tree_self}
 use Rattle.obq_windows.specs.Places.{Place}
-use Rattle.obq_windows.specs.Trees.{PendingArguments, PendingAssign, PendingCalled, PendingChain, PendingCount, PendingEach, PendingField, PendingFirst, PendingForeach, PendingForm, PendingGuard, PendingHead, PendingIf, PendingKept, PendingLast, PendingLet, PendingLoop, PendingRaise, PendingRight, PendingTesting, PendingThen, PendingTo, PendingTry, PendingVar, PendingWatch, PendingWithin, ToArray, ToBuiltin, ToCall, ToClone, ToIndex, ToInvoke, ToRedirect, ToSetAlias, ToSetIndex, ToSetValue, TreeFrame, field_frame, frames_of, link_frame, links_around, pending_frames, suffix_frame, suffixes_around}
+use Rattle.obq_windows.specs.Trees.{PendingArguments, PendingAssign, PendingCalled, PendingChain, PendingCount, PendingEach, PendingField, PendingFirst, PendingForeach, PendingForm, PendingGuard, PendingHead, PendingIf, PendingKept, PendingLast, PendingLet, PendingLoop, PendingObject, PendingRaise, PendingRight, PendingTesting, PendingThen, PendingTo, PendingTry, PendingVar, PendingWatch, PendingWithin, ToArray, ToBuiltin, ToCall, ToClone, ToIndex, ToInvoke, ToRedirect, ToSetAlias, ToSetIndex, ToSetValue, TreeFrame, field_frame, frames_of, link_frame, links_around, pending_frames, suffix_frame, suffixes_around}
 use Rattle.obq_windows.specs.Values.{Table}
 
 selves_links : {R : Type 0} → (T : Table R) (a : Self R) (p : Place R) (links : LinkTrees) → self_at a (links_around T p links) ≡ a
@@ -37,6 +37,7 @@ selves_field T n p x (AliasOf y e place) = refl
 selves_pend : {R : Type 0} → (T : Table R) (a : Self R) (p : Place R) (pending : PendingForm R) → self_at a (pending_frames T p pending) ≡ self_by pending a
 selves_pend T a p (PendingThen is) = refl
 selves_pend T a p (PendingLet x bs is) = refl
+selves_pend T a p (PendingObject flags done x other fields) = refl
 selves_pend T a p (PendingVar x bs is) = refl
 selves_pend T a p (PendingIf b arms last) = refl
 selves_pend T a p (PendingChain op e links) = selves_links T a p (ALink op e 0 links)

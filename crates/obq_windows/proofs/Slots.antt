@@ -1,7 +1,7 @@
 -- Names in slots: what a slot has is what its name stands for.
 use Rattle.std.specs.Prelude.{Bool, List, None, Option, Some, [], bytes_eq, drop, false, if◌then◌else◌, is_some, length, option_map, refl, slice_get, suc, true, unwrap_or, ℕ, ◌+◌, ◌<◌, ◌||◌, ◌∷◌, ◌≡◌, ◌≤◌}
 use Rattle.obq_base.specs.declared.code.Slot.TheVariants as s
-use Rattle.std.proofs.Common.{ap, arith, inr, subst, sym, ◌∙◌}
+use Rattle.std.proofs.Common.{ap, arith, subst, sym, ◌∙◌}
 use Rattle.std.proofs.lemmas.Slice.Eq.{bytes_eq-Decides}
 use Rattle.obq_base.specs.declared.code.CodeNo.{CodeNo}
 use Rattle.obq_base.specs.declared.code.Node.{Node}
@@ -147,19 +147,19 @@ target_alike {R} T S g act b bound w mg x = at (is_covered (outside_at T (place_
 
 -- a value that is used
 pub used_alike : {R : Type 0} → (T : Table R) (S : Store R) (act : Activation R) (b : ℕ) (ns : List (NodeFrame R)) (fs : List (TreeFrame R)) → FramesAre T S act b ns fs → (v : PlainValue R) → Same T S (use_slot true act ns v) (used (Some v) fs)
-used_alike T S act b ns fs fr (LocationValue Variable r) = inr (record { tag = refl; makes = refl; height = b; frames = fr; focus = (NodeHere, refl, refl) })
-used_alike T S act b ns fs fr (LocationValue Object r) = inr (record { tag = refl; makes = refl; height = b; frames = fr; focus = refl })
-used_alike T S act b ns fs fr (LocationValue Array r) = inr (record { tag = refl; makes = refl; height = b; frames = fr; focus = refl })
-used_alike T S act b ns fs fr (LocationValue Writer r) = inr (record { tag = refl; makes = refl; height = b; frames = fr; focus = refl })
-used_alike T S act b ns fs fr (LocationValue Condition r) = inr (record { tag = refl; makes = refl; height = b; frames = fr; focus = refl })
-used_alike T S act b ns fs fr (LocationValue Engine r) = inr (record { tag = refl; makes = refl; height = b; frames = fr; focus = refl })
-used_alike T S act b ns fs fr (IntValue z) = inr (record { tag = refl; makes = refl; height = b; frames = fr; focus = refl })
-used_alike T S act b ns fs fr (TruthValue z) = inr (record { tag = refl; makes = refl; height = b; frames = fr; focus = refl })
-used_alike T S act b ns fs fr OkayValue = inr (record { tag = refl; makes = refl; height = b; frames = fr; focus = refl })
-used_alike T S act b ns fs fr (TextValue z) = inr (record { tag = refl; makes = refl; height = b; frames = fr; focus = refl })
-used_alike T S act b ns fs fr (ExceptionValue z) = inr (record { tag = refl; makes = refl; height = b; frames = fr; focus = refl })
-used_alike T S act b ns fs fr (ThreadValue z) = inr (record { tag = refl; makes = refl; height = b; frames = fr; focus = refl })
-used_alike T S act b ns fs fr (ClosureValue t c group index cs) = inr (record { tag = refl; makes = refl; height = b; frames = fr; focus = refl })
+used_alike T S act b ns fs fr (LocationValue Variable r) = record { tag = refl; makes = refl; height = b; frames = fr; focus = (NodeHere, refl, refl) }
+used_alike T S act b ns fs fr (LocationValue Object r) = record { tag = refl; makes = refl; height = b; frames = fr; focus = refl }
+used_alike T S act b ns fs fr (LocationValue Array r) = record { tag = refl; makes = refl; height = b; frames = fr; focus = refl }
+used_alike T S act b ns fs fr (LocationValue Writer r) = record { tag = refl; makes = refl; height = b; frames = fr; focus = refl }
+used_alike T S act b ns fs fr (LocationValue Condition r) = record { tag = refl; makes = refl; height = b; frames = fr; focus = refl }
+used_alike T S act b ns fs fr (LocationValue Engine r) = record { tag = refl; makes = refl; height = b; frames = fr; focus = refl }
+used_alike T S act b ns fs fr (IntValue z) = record { tag = refl; makes = refl; height = b; frames = fr; focus = refl }
+used_alike T S act b ns fs fr (TruthValue z) = record { tag = refl; makes = refl; height = b; frames = fr; focus = refl }
+used_alike T S act b ns fs fr OkayValue = record { tag = refl; makes = refl; height = b; frames = fr; focus = refl }
+used_alike T S act b ns fs fr (TextValue z) = record { tag = refl; makes = refl; height = b; frames = fr; focus = refl }
+used_alike T S act b ns fs fr (ExceptionValue z) = record { tag = refl; makes = refl; height = b; frames = fr; focus = refl }
+used_alike T S act b ns fs fr (ThreadValue z) = record { tag = refl; makes = refl; height = b; frames = fr; focus = refl }
+used_alike T S act b ns fs fr (ClosureValue t c group index cs) = record { tag = refl; makes = refl; height = b; frames = fr; focus = refl }
 
 pub name_alike : {R : Type 0} → (T : Table R) (S : Store R) → Agrees T S → (act : Activation R) (b : ℕ) (bound : List (Bound R)) → IsBound act b bound → ((k : ℕ) → k < length (outside_at T (place_at act bound)).members → act.group ≡ proc_group (T.procs act.code)) → (ns : List (NodeFrame R)) (fs : List (TreeFrame R)) → FramesAre T S act b ns fs → (x : Bytes)
     → Same T S (use_node S act ns (slot_of (outside_at T (place_at act bound)) (bound_names bound) x)) (begin_name T (place_at act bound) (is_covered (outside_at T (place_at act bound)) (bound_names bound) x) x fs)
@@ -194,10 +194,10 @@ name_alike {R} T S g act b bound w mg ns fs fr x =
       at None e None f None h =
           subst (λ (sl : Slot). Same T S (use_node S act ns sl) (begin_name T (place_at act bound) (is_covered (outside_at T (place_at act bound)) (bound_names bound) x) x fs)) (sym (slot None None None e f h))
           (subst (λ (d : Bool). Same T S (use_node S act ns (s.Stdout (proc_outside (T.procs act.code)).source)) (begin_name T (place_at act bound) d x fs)) (sym (cover None None None e f h))
-          (inr (record { tag = refl; makes = refl; height = b; frames = fr; focus = ap (λ z. NodeValue (LocationValue Writer z)) (g.writer (proc_outside (T.procs act.code)).source) })))
+          (record { tag = refl; makes = refl; height = b; frames = fr; focus = ap (λ z. NodeValue (LocationValue Writer z)) (g.writer (proc_outside (T.procs act.code)).source) }))
 
 pub alike : {R : Type 0} → (T : Table R) (S : Store R) (tag : Tag R) (act : Activation R) (b : ℕ) (ns : List (NodeFrame R)) (nf : NodeFocus R) (fs : List (TreeFrame R)) (tf : TreeFocus R) → FramesAre T S act b ns fs → FocusIs T S act b nf tf → Same T S (node_moved tag act ns nf) (tree_moved tag fs tf)
-alike T S tag act b ns nf fs tf h k = inr (record { tag = refl; makes = refl; height = b; frames = h; focus = k })
+alike T S tag act b ns nf fs tf h k = record { tag = refl; makes = refl; height = b; frames = h; focus = k }
 
 pub not_above : (n : ℕ) → n ≤ n
 not_above n = omega arith

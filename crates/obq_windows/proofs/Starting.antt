@@ -1,7 +1,7 @@
 -- A task that begins.
 use Rattle.std.specs.Prelude.{Bool, List, None, Option, Some, [], codes, false, if◌then◌else◌, option_map, refl, true, ℕ, ◌≡◌}
 use Rattle.std.proofs.Common.{ap, subst, sym, ◌∙◌}
-use Rattle.obq_base.specs.Tree.{ABind, ABlock, ASuffix, AnArm, AnExpr, AnItem, ApplySuffix, ArmTrees, ArrayTree, AssignItem, BindTrees, BlockOf, BlockTree, ChainTree, CloneTree, ExitTree, ExprTree, FieldItem, FieldTree, FinallyTree, ForTree, ForeachTree, IfTree, IndexItem, IndexSuffix, IntTree, InvokeSuffix, ItemTrees, LetItem, LetRecItem, LinkTrees, LoopTree, MaybeBlock, NameTree, NoArms, NoBinds, NoBlock, NoExprs, NoItems, NoSuffixes, OkTree, PlainItem, ProcTree, RaiseTree, RedirectTree, SelectSuffix, SuffixTrees, SuffixedTree, TextTree, TruthTree, TryTree, VarItem, WatchTree}
+use Rattle.obq_base.specs.Tree.{ABind, ABlock, ASuffix, AnArm, AnExpr, AnItem, ApplySuffix, ArmTrees, ArrayTree, AssignItem, BindTrees, BlockOf, BlockTree, ChainTree, CloneTree, ExitTree, ExprTree, FieldItem, FieldTree, FinallyTree, ForTree, ForeachTree, IfTree, IndexItem, IndexSuffix, IntTree, InvokeSuffix, ItemTrees, LetItem, LetRecItem, LinkTrees, LoopTree, MaybeBlock, NameTree, NoArms, NoBinds, NoBlock, NoExprs, NoItems, NoSuffixes, ObjectTree, OkTree, PlainItem, ProcTree, RaiseTree, RedirectTree, SelectSuffix, SuffixTrees, SuffixedTree, TextTree, TruthTree, TryTree, VarItem, WatchTree}
 use Rattle.obq_base.specs.declared.code.CodeNo.{CodeNo}
 use Rattle.obq_model.specs.Draft.{called_row}
 use Rattle.obq_model.specs.Opened.{builtin_at, open_binds, open_called, open_expr, open_exprs, open_items, open_suffixes}
@@ -19,6 +19,7 @@ use Rattle.obq_windows.specs.Values.{ClosureValue, ExceptionValue, IntValue, IsM
 use Rattle.obq_windows.proofs.Around.{Starts, asks, chain_read, field_read, here, links_frames, pushed, silent, suffixes_frames, suffixes_read, to_here, to_pushed}
 use Rattle.obq_windows.proofs.Begins.{args_right, of_term, suffix_args}
 use Rattle.obq_windows.proofs.Closing.{letrec_begins, proc_begins, rest_starts}
+use Rattle.obq_windows.proofs.Literals.{fields_begin}
 use Rattle.obq_windows.proofs.Results.{closure_cases}
 
 pub if_starts : {R : Type 0} → (T : Table R) (fs : List (TreeFrame R)) (tag : Tag R) (p : Place R) (arms : ArmTrees) (last : MaybeBlock) → Starts T fs (if_at T p arms last) tag (begin_if tag p arms last fs)
@@ -81,10 +82,10 @@ suffixed eq T a s w p e (ASuffix (ApplySuffix es place) ss) fs (Some r) =
     (ap (plug (frames_of T fs)) (suffixes_read T p ss (Form (Apply (builtin_at r)) (open_exprs (writer_at T p) (outside_at T p) (names_at p) es)))
     ∙ sym (plug_append (frames_of T fs) (suffixes_around T p ss) _) ∙ ap (λ gs. plug gs (Form (Apply (builtin_at r)) (exprs_at T p es))) (sym (suffixes_frames T p ss fs)))
     (suffix_args eq T a s w fs (ToBuiltin r) p [] es ss)
-suffixed eq T a s w p e NoSuffixes fs (Some r) = tt
-suffixed eq T a s w p e (ASuffix (SelectSuffix x place) ss) fs (Some r) = tt
-suffixed eq T a s w p e (ASuffix (InvokeSuffix x es place) ss) fs (Some r) = tt
-suffixed eq T a s w p e (ASuffix (IndexSuffix i place) ss) fs (Some r) = tt
+suffixed eq T a s w p e NoSuffixes fs (Some r) = silent eq T a s fs _ (tree_moved Silent fs (TreeValue OkayValue)) (record { tag_is = refl; leads = here T fs (TreeValue OkayValue) _ refl })
+suffixed eq T a s w p e (ASuffix (SelectSuffix x place) ss) fs (Some r) = silent eq T a s fs _ (tree_moved Silent fs (TreeValue OkayValue)) (record { tag_is = refl; leads = here T fs (TreeValue OkayValue) _ refl })
+suffixed eq T a s w p e (ASuffix (InvokeSuffix x es place) ss) fs (Some r) = silent eq T a s fs _ (tree_moved Silent fs (TreeValue OkayValue)) (record { tag_is = refl; leads = here T fs (TreeValue OkayValue) _ refl })
+suffixed eq T a s w p e (ASuffix (IndexSuffix i place) ss) fs (Some r) = silent eq T a s fs _ (tree_moved Silent fs (TreeValue OkayValue)) (record { tag_is = refl; leads = here T fs (TreeValue OkayValue) _ refl })
 
 expr_begins : {R : Type 0} → (eq : R → R → Bool) (T : Table R) (a : ℕ) (s : Self R) → IsMadeTable T → (thread count : ℕ) (numbers : List CodeNo) (p : Place R) (e : ExprTree) (fs : List (TreeFrame R)) → HintExpr T numbers p e
     → Moves eq T a s (plug (frames_of T fs) (expr_at T p e)) (begin_expr T (count_activations a fs) thread count numbers p e fs)
@@ -109,7 +110,7 @@ expr_begins eq T a s w thread count numbers p (RedirectTree o q place) fs h = ar
 expr_begins eq T a s w thread count numbers p (ChainTree e links) fs h =
     of_term eq T a s _ _ (going_on Silent p links e fs) (ap (plug (frames_of T fs)) (chain_read T p links (open_expr (writer_at T p) (outside_at T p) (names_at p) e))) (silent eq T a s fs _ (going_on Silent p links e fs) (chain_starts T fs Silent p links e))
 expr_begins eq T a s w thread count numbers p (SuffixedTree e ss) fs h = suffixed eq T a s w p e ss fs (called_row (outside_at T p) (names_at p) e ss)
-expr_begins eq T a s w thread count numbers p e fs h = tt
+expr_begins eq T a s w thread count numbers p (ObjectTree flags fields place) fs h = fields_begin eq T a s p flags [] fields fs
 
 assign_around : {R : Type 0} → (T : Table R) (p : Place R) (x : Bytes) (e : ExprTree) (place : ℕ) (is : ItemTrees) (fs : List (TreeFrame R)) → plug (frames_of T fs) (items_at T p (AnItem (AssignItem x e place) is)) ≡ plug (frames_of T (with_items p is fs)) (Form Assign (Part (expr_at T p e) (Part (target_at T p x) End)))
 assign_around T p x e place NoItems fs = refl
@@ -131,7 +132,7 @@ count_with_items a p (AnItem i is) fs = refl
 
 items_begin : {R : Type 0} → (eq : R → R → Bool) (T : Table R) (a : ℕ) (s : Self R) → IsMadeTable T → (thread count : ℕ) (numbers : List CodeNo) (p : Place R) (is : ItemTrees) (fs : List (TreeFrame R)) → HintItems T numbers p is
     → Moves eq T a s (plug (frames_of T fs) (items_at T p is)) (begin_items T (count_activations a fs) thread count numbers p is fs)
-items_begin eq T a s w thread count numbers p NoItems fs h = tt
+items_begin eq T a s w thread count numbers p NoItems fs h = silent eq T a s fs _ (tree_moved Silent fs (TreeValue OkayValue)) (record { tag_is = refl; leads = here T fs (TreeValue OkayValue) _ refl })
 items_begin eq T a s w thread count numbers p (AnItem (LetItem bs place) is) fs h = silent eq T a s fs _ (begin_binds Silent p bs is fs) (binds_start T fs Silent p bs is)
 items_begin eq T a s w thread count numbers p (AnItem (VarItem bs place) is) fs h = silent eq T a s fs _ (begin_vars Silent p bs is fs) (vars_start T fs Silent p bs is)
 items_begin eq T a s w thread count numbers p (AnItem (LetRecItem bs place) is) fs h = letrec_begins eq T a s w thread count numbers p bs place is fs h

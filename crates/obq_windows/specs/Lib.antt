@@ -2,6 +2,7 @@ pub mod Agrees
 pub mod Acts
 pub mod Complete
 pub mod Laws
+pub mod Literals
 pub mod Meanings
 pub mod Moves
 pub mod Places

@@ -1,7 +1,7 @@
 //! Windows of the pure machine against its terms: laws and definitions. No code runs here.
 #![tactic(auto)]
 
-ghost use Rattle.obq_windows.specs.Acts.{AnswersRead, SelfIsOwn};
+ghost use Rattle.obq_windows.specs.Acts.{AnswersRead, SelfIsOwn, WindowsBegin};
 ghost use Rattle.obq_windows.specs.Laws.{OpeningReads, OpeningRuns, RunMoves, StepsAreThose, TreeMoves, WindowMoves};
 ghost use Rattle.obq_windows.specs.Programs.{ProgramsAgree, ProgramsRun};
 
@@ -30,6 +30,12 @@ pub fn answers_read<R>()
 /// At an act's form the current self is the window's own: the object of the innermost method in it, or what lies around the window.
 pub fn self_is_own<R>()
     ensures law { SelfIsOwn R }
+{}
+
+/// A new window reads back as what begins there: the call of a thread's closure; the body of a method, or of a closure that an engine
+/// calls, where the caller's window lies elsewhere.
+pub fn windows_begin<R>()
+    ensures law { WindowsBegin R }
 {}
 
 /// Those pure steps are the ones that a journal's entry counts.
