@@ -1,0 +1,16 @@
+//! Values on their way: a table of the closed groups that they need, and values over it.
+#![tactic(auto)]
+
+mod cache;
+mod carried;
+mod laws;
+mod packing;
+mod unpacking;
+
+pub use cache::ImportCache;
+pub use carried::Carried;
+pub use laws::closures_travel;
+pub use packing::pack;
+
+#[cfg(test)]
+mod tests;
