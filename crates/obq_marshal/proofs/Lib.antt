@@ -1,1 +1,2 @@
 mod Travel
+mod InOrder
