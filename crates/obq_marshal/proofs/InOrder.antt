@@ -46,7 +46,7 @@ lookup_behind k (p ∷ ps) qs h = by (lookup_behind k ps qs) (same_key k p.0) h
     by rest true h2 = absurd (true≢false (ap is_some h2))
     by rest false h2 = rest h2
 
-get_here : (ps : Placed) (e : TableEntry) (more : List TableEntry) → slice_get (values_of ps ++ e ∷ more) (length ps) ≡ Some e
+pub get_here : (ps : Placed) (e : TableEntry) (more : List TableEntry) → slice_get (values_of ps ++ e ∷ more) (length ps) ≡ Some e
 get_here [] e more = refl
 get_here (p ∷ ps) e more = get_here ps e more
 

@@ -1,2 +1,3 @@
 mod Travel
 mod InOrder
+mod InRange
