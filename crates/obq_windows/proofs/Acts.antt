@@ -157,3 +157,12 @@ act_asks {R} eq T w a s fs op after o around e =
       at : (z : Option (Kept R)) → ActIs T op (scope_after T after) (found_in eq T a s fs (act_form T op (scope_after T after))) z → Asked T fs op after o around
       at None h = asked_is T fs op after o around _ e (needs_plug eq a s (frames_of T fs) _ _ [] (are_frames T fs) h ∙ ap (Needs (read_operation T op (scope_after T after))) (append-nil (frames_of T fs)))
       at (Some k) h = absurd (true_false (ap (λ (z : Found R). is_some (operation_in z)) (sym e ∙ step_plug eq a s (frames_of T fs) _ _ (are_frames T fs) h)))
+
+-- an act that is needed doesn't end in another way
+pub act_goes_on : {R : Type 0} → (eq : R → R → Bool) (T : Table R) → IsMadeTable T → (a : ℕ) (s : Self R) (fs : List (TreeFrame R)) (op : PlainOperation R) (after : TreeAfter R) (o : Operation R) (around : List (Frame R)) → find eq a s (term_of T fs (TreeAct op after)) ≡ Needs o around
+    → act_ends (tree_params T) (tree_refused T) (activations_at a (frames_of T fs)) op ≡ None
+act_goes_on {R} eq T w a s fs op after o around e =
+    at (act_ends (tree_params T) (tree_refused T) (activations_at a (frames_of T fs)) op) refl (act_is eq T w (activations_at a (frames_of T fs)) (self_at s (frames_of T fs)) op (scope_after T after)) where
+      at : (z : Option (Kept R)) → act_ends (tree_params T) (tree_refused T) (activations_at a (frames_of T fs)) op ≡ z → ActIs T op (scope_after T after) (found_in eq T a s fs (act_form T op (scope_after T after))) z → act_ends (tree_params T) (tree_refused T) (activations_at a (frames_of T fs)) op ≡ None
+      at None q h = q
+      at (Some k) q h = absurd (true_false (ap (λ (z : Found R). is_some (operation_in z)) (sym e ∙ step_plug eq a s (frames_of T fs) _ _ (are_frames T fs) h)))

@@ -11,10 +11,9 @@ use Rattle.obq_model.specs.Depth.{is_too_deep}
 use Rattle.obq_model.specs.Draft.{Both, Plain, behind_first, called_row, captured_by, count_arms, count_exprs, count_suffixes, draft_arms, draft_expr, draft_field, draft_maybe, draft_suffixes, field_names, has_block, operators_of}
 use Rattle.obq_model.specs.Occurrences.{free_procedure}
 use Rattle.obq_model.specs.Opened.{open_block}
-use Rattle.obq_model.specs.Procedures.{Proc}
 use Rattle.obq_model.specs.Reading.{hide, read}
 use Rattle.obq_model.specs.Scopes.{inside, slots_of}
-use Rattle.obq_model.specs.Terms.{Array, Bytes, Clone, Condition, Engine, Exit, ExitUp, Finally, For, Foreach, Int, Loop, Object, Okay, Raise, Redirect, Truth, Try, Variable, Watch, Writer}
+use Rattle.obq_model.specs.Terms.{Array, Bytes, Condition, Engine, ExitUp, Object, Variable, Writer}
 use Rattle.obq_model.proofs.Among.{true_false}
 use Rattle.obq_model.proofs.Drafted.{drafted_block, drafted_expr, drafted_suffix}
 use Rattle.obq_model.proofs.Finds.{row_called}

@@ -10,7 +10,7 @@ use Rattle.obq_model.specs.Draft.{Both, captured_by, count_arms, count_binds, co
 use Rattle.obq_model.specs.Occurrences.{bind_names}
 use Rattle.obq_model.specs.Scopes.{slots_of}
 use Rattle.obq_model.specs.Step.{Self}
-use Rattle.obq_model.specs.Terms.{Apply, Array, Bytes, Condition, Engine, Held, Index, Inner, Invoke, Mode, Object, Plain, Select, Variable, Writer}
+use Rattle.obq_model.specs.Terms.{Array, Bytes, Condition, Engine, Held, Inner, Mode, Object, Plain, Variable, Writer}
 use Rattle.obq_model.proofs.Among.{true_false}
 use Rattle.obq_model.proofs.Drafted.{drafted_block, drafted_expr, drafted_suffix}
 use Rattle.obq_windows.specs.Agrees.{Agrees, FramesAre, IsBound, Same, StandsAt, place_at}

@@ -12,8 +12,7 @@ use Rattle.obq_model.specs.Draft.{Draft, captured_by_group, count_binds, count_i
 use Rattle.obq_model.specs.Occurrences.{bind_names, free_members, item_names, member_names}
 use Rattle.obq_model.specs.Procedures.{AreMembers}
 use Rattle.obq_model.specs.Scopes.{Outside, inside, slot_of, slots_of}
-use Rattle.obq_model.specs.Step.{SetItem}
-use Rattle.obq_model.specs.Terms.{Assign, Bytes, Let, LetRec, Var}
+use Rattle.obq_model.specs.Terms.{Bytes}
 use Rattle.obq_model.proofs.Drafted.{drafted_expr, drafted_item}
 use Rattle.obq_model.proofs.Occurring.{captured_covered}
 use Rattle.obq_windows.specs.Agrees.{Agrees, FramesAre, IsBound, Same, StandsAt, place_at}

@@ -26,7 +26,7 @@ use Rattle.obq_windows.proofs.Acts.{Asked, act_asks}
 use Rattle.obq_windows.proofs.AlikeCalls.{at_entry}
 use Rattle.obq_windows.proofs.AlikeGives.{item_alike, var_alike}
 use Rattle.obq_windows.proofs.AlikeMoves.{self_alike}
-use Rattle.obq_windows.proofs.Around.{are_frames, whole}
+use Rattle.obq_windows.proofs.Around.{whole}
 use Rattle.obq_windows.proofs.Calls.{body_right}
 use Rattle.obq_windows.proofs.Frames.{frames_full}
 use Rattle.obq_windows.proofs.Gives.{block_entered, var_given}
@@ -46,15 +46,15 @@ after_at other (NodeAct op after) = after
 after_at other nf = other
 
 -- the window over trees is at this act's form
-record AtAct {R : Type 0} (T : Table R) (S : Store R) (act : Activation R) (b : ℕ) (op : PlainOperation R) (na : NodeAfter) (focus : TreeFocus R) : Type 0 where
-  after : TreeAfter R
-  is_act : focus ≡ TreeAct op after
-  is_after : AfterIs T S act b na after
+pub record AtAct {R : Type 0} (T : Table R) (S : Store R) (act : Activation R) (b : ℕ) (op : PlainOperation R) (na : NodeAfter) (focus : TreeFocus R) : Type 0 where
+  pub after : TreeAfter R
+  pub is_act : focus ≡ TreeAct op after
+  pub is_after : AfterIs T S act b na after
 
 not_act : {R : Type 0} {A : Type 0} → (op : PlainOperation R) (na : NodeAfter) (nf : NodeFocus R) → operation_at nf ≡ None → NodeAct op na ≡ nf → A
 not_act op na nf e h = absurd (true_false (ap (λ z. is_some (operation_at z)) h ∙ ap is_some e))
 
-at_act : {R : Type 0} → (T : Table R) (S : Store R) (act : Activation R) (b : ℕ) (op : PlainOperation R) (na : NodeAfter) (focus : TreeFocus R) → FocusIs T S act b (NodeAct op na) focus → AtAct T S act b op na focus
+pub at_act : {R : Type 0} → (T : Table R) (S : Store R) (act : Activation R) (b : ℕ) (op : PlainOperation R) (na : NodeAfter) (focus : TreeFocus R) → FocusIs T S act b (NodeAct op na) focus → AtAct T S act b op na focus
 at_act T S act b op na (TreeRun p (ExprTask e)) h = not_act op na _ refl h.1
 at_act T S act b op na (TreeRun p (BlockTask e)) h = not_act op na _ refl h.1
 at_act T S act b op na (TreeRun p (ItemsTask NoItems)) h = absurd h

@@ -37,7 +37,7 @@ count_field T n p x (AliasOf y e place) = refl
 count_pend : {R : Type 0} → (T : Table R) (a : ℕ) (p : Place R) (pending : PendingForm R) → activations_at a (pending_frames T p pending) ≡ (if is_activation pending then suc a else a)
 count_pend T a p (PendingThen is) = refl
 count_pend T a p (PendingLet x bs is) = refl
-count_pend T a p (PendingObject flags done x other fields) = refl
+count_pend T a p (PendingObject flags done x other rest) = refl
 count_pend T a p (PendingVar x bs is) = refl
 count_pend T a p (PendingIf b arms last) = refl
 count_pend T a p (PendingChain op e links) = count_links T a p (ALink op e 0 links)

@@ -9,7 +9,7 @@ use Rattle.obq_model.specs.Procedures.{main_proc}
 use Rattle.obq_model.specs.Skipped.{skipped}
 use Rattle.obq_model.specs.Step.{no_self}
 use Rattle.obq_model.specs.Store.{same_loc}
-use Rattle.obq_model.specs.Terms.{Const, For, Int, Okay}
+use Rattle.obq_model.specs.Terms.{Const, Okay}
 use Rattle.obq_windows.specs.Agrees.{Agrees}
 use Rattle.obq_windows.specs.Laws.{RunReads}
 use Rattle.obq_windows.specs.Runs.{AtBottom, Ran, pure_steps, run_nodes}

@@ -10,7 +10,6 @@ use Rattle.obq_windows.specs.Trees.{PendingCalled, PendingWithin, TreeCall, Tree
 use Rattle.obq_windows.specs.Values.{ClosureValue, ExceptionValue, IntValue, LocationValue, OkayValue, PlainValue, Table, TextValue, ThreadValue, TruthValue, proc_named}
 use Rattle.obq_windows.specs.Windows.{NodeCalled, NodeMoved, NodeWithin, Store}
 use Rattle.obq_windows.proofs.Answering.{Answered, entered_answer}
-use Rattle.obq_windows.proofs.Around.{are_frames}
 
 read_window : {R : Type 0} → (T : Table R) (S : Store R) (m : NodeMoved R) (t : TreeMoved R) (u : Term R) → Answered T S m t u → ReadsMoved T S m u
 read_window T S m t u k = record {

@@ -19,7 +19,7 @@ frame_up : {R : Type 0} → (T : Table R) (S : Store R) (act : Activation R) (b 
 frame_up T S act b c f p (PendingThen NoItems) l h = absurd h
 frame_up T S act b c f p (PendingThen (AnItem i is)) l h = (h.0, h.1, h.2, at_most _ b c h.3 l, h.4, h.5)
 frame_up T S act b c f p (PendingLet x bs is) l h = (h.0, h.1, h.2, h.3, at_most _ b c h.4 l, h.5, h.6, h.7)
-frame_up T S act b c f p (PendingObject flags done x other fields) l h = (h.0, h.1, h.2, h.3, at_most _ b c h.4 l, h.5, h.6, h.7)
+frame_up T S act b c f p (PendingObject flags done x other rest) l h = (h.0, h.1, h.2, h.3, at_most _ b c h.4 l, h.5, h.6, h.7)
 frame_up T S act b c f p (PendingVar x bs is) l h = (h.0, h.1, h.2, h.3, at_most _ b c h.4 l, h.5, h.6, h.7)
 frame_up T S act b c f p (PendingIf block arms last) l h = (h.0, h.1, h.2, at_most _ b c h.3 l, h.4, h.5)
 frame_up T S act b c f p (PendingChain op e links) l h = (h.0, h.1, h.2, h.3, h.4, at_most _ b c h.5 l, h.6, h.7, h.8, h.9, h.10)
@@ -108,7 +108,7 @@ frame_kept : {R : Type 0} → (T : Table R) (S : Store R) (act : Activation R) (
 frame_kept T S act b h vs f p (PendingThen NoItems) l k = absurd k
 frame_kept T S act b h vs f p (PendingThen (AnItem i is)) l k = (k.0, k.1, k.2, k.3, place_kept act _ h vs p (at_most _ b h k.3 l) k.4, k.5)
 frame_kept T S act b h vs f p (PendingLet x bs is) l k = (k.0, k.1, k.2, k.3, k.4, place_kept act _ h vs p (at_most _ b h k.4 l) k.5, k.6, k.7)
-frame_kept T S act b h vs f p (PendingObject flags done x other fields) l k = (k.0, k.1, k.2, k.3, k.4, place_kept act _ h vs p (at_most _ b h k.4 l) k.5, k.6, k.7)
+frame_kept T S act b h vs f p (PendingObject flags done x other rest) l k = (k.0, k.1, k.2, k.3, k.4, place_kept act _ h vs p (at_most _ b h k.4 l) k.5, k.6, k.7)
 frame_kept T S act b h vs f p (PendingVar x bs is) l k = (k.0, k.1, k.2, k.3, k.4, place_kept act _ h vs p (at_most _ b h k.4 l) k.5, k.6, k.7)
 frame_kept T S act b h vs f p (PendingIf block arms last) l k = (k.0, k.1, k.2, k.3, place_kept act _ h vs p (at_most _ b h k.3 l) k.4, k.5)
 frame_kept T S act b h vs f p (PendingChain op e links) l k = (k.0, k.1, k.2, k.3, k.4, k.5, place_kept act _ h vs p (at_most _ b h k.5 l) k.6, k.7, k.8, k.9, k.10)
@@ -138,7 +138,7 @@ frame_low : {R : Type 0} → (T : Table R) (S : Store R) (act : Activation R) (b
 frame_low T S act b f p (PendingThen NoItems) k = absurd k
 frame_low {R} T S act b f p (PendingThen (AnItem i is)) k = inl (subst (λ (z : NodeFrame R). height_behind b z ≤ b) (sym k.2) k.3)
 frame_low {R} T S act b f p (PendingLet x bs is) k = inl (subst (λ (z : NodeFrame R). height_behind b z ≤ b) (sym k.3) k.4)
-frame_low {R} T S act b f p (PendingObject flags done x other fields) k = inl (subst (λ (z : NodeFrame R). height_behind b z ≤ b) (sym k.3) k.4)
+frame_low {R} T S act b f p (PendingObject flags done x other rest) k = inl (subst (λ (z : NodeFrame R). height_behind b z ≤ b) (sym k.3) k.4)
 frame_low {R} T S act b f p (PendingVar x bs is) k = inl (subst (λ (z : NodeFrame R). height_behind b z ≤ b) (sym k.3) k.4)
 frame_low {R} T S act b f p (PendingIf block arms last) k = inl (subst (λ (z : NodeFrame R). height_behind b z ≤ b) (sym k.2) k.3)
 frame_low {R} T S act b f p (PendingChain op e links) k = inl (subst (λ (z : NodeFrame R). height_behind b z ≤ b) (sym k.4) k.5)
@@ -244,7 +244,7 @@ frame_full : {R : Type 0} → (T : Table R) (S : Store R) (act : Activation R) (
 frame_full T S act b f p (PendingThen NoItems) h = absurd h
 frame_full T S act b f p (PendingThen (AnItem i is)) h = (h.0, h.1, h.2, in_force act _ h.4.0 h.4.2, h.4, h.5)
 frame_full T S act b f p (PendingLet x bs is) h = (h.0, h.1, h.2, h.3, in_force act _ h.5.0 h.5.2, h.5, h.6, h.7)
-frame_full T S act b f p (PendingObject flags done x other fields) h = (h.0, h.1, h.2, h.3, in_force act _ h.5.0 h.5.2, h.5, h.6, h.7)
+frame_full T S act b f p (PendingObject flags done x other rest) h = (h.0, h.1, h.2, h.3, in_force act _ h.5.0 h.5.2, h.5, h.6, h.7)
 frame_full T S act b f p (PendingVar x bs is) h = (h.0, h.1, h.2, h.3, in_force act _ h.5.0 h.5.2, h.5, h.6, h.7)
 frame_full T S act b f p (PendingIf block arms last) h = (h.0, h.1, h.2, in_force act _ h.4.0 h.4.2, h.4, h.5)
 frame_full T S act b f p (PendingChain op e links) h = (h.0, h.1, h.2, h.3, h.4, in_force act _ h.6.0 h.6.2, h.6, h.7, h.8, h.9, h.10)

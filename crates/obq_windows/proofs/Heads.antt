@@ -7,10 +7,8 @@ use Rattle.obq_base.specs.declared.code.CodeNo.{CodeNo}
 use Rattle.obq_base.specs.declared.code.Node.{Node}
 use Rattle.obq_model.specs.CodeLaws.{nodes_of}
 use Rattle.obq_model.specs.Draft.{Both, Plain, behind_first, called_row, captured_by, count_arms, count_exprs, count_suffixes, draft_expr, draft_suffixes, field_names, has_block, operators_of}
-use Rattle.obq_model.specs.Procedures.{Proc}
 use Rattle.obq_model.specs.Scopes.{Outside, slot_of, slots_of}
-use Rattle.obq_model.specs.Step.{SetItem}
-use Rattle.obq_model.specs.Terms.{Array, Assign, Builtin, Bytes, Clone, Exit, Finally, For, Foreach, Int, Let, LetRec, Loop, Object, Okay, Raise, Redirect, Truth, Try, Var, Watch}
+use Rattle.obq_model.specs.Terms.{Bytes}
 use Rattle.obq_model.proofs.Among.{true_false}
 use Rattle.obq_windows.specs.Agrees.{Same, StandsAt}
 use Rattle.obq_windows.specs.Trees.{Silent, TreeMoved}

@@ -5,13 +5,14 @@ use Rattle.obq_base.specs.Tree.{AProc, ProcedureTree}
 use Rattle.obq_base.specs.declared.code.CodeNo.{CodeNo}
 use Rattle.obq_model.specs.Draft.{captured_by}
 use Rattle.obq_model.specs.Procedures.{Proc}
-use Rattle.obq_model.specs.Terms.{Array, Bytes, Condition, Engine, Object, Variable, Writer}
-use Rattle.obq_windows.specs.Complete.{AllComplete, CompleteBody, CompleteFields, CompletePlace, IsComplete, Knows}
+use Rattle.obq_model.specs.Terms.{Array, Bytes, Condition, Engine, Object, Value, Variable, Writer}
+use Rattle.obq_windows.specs.Complete.{AllComplete, CompleteBody, CompleteFields, CompletePlace, IsClosed, IsComplete, Knows}
 use Rattle.obq_windows.specs.Literals.{DoneAlias, DoneField, DoneMethod, DoneValue, done_values, done_with}
 use Rattle.obq_windows.specs.Moves.{AreProcHints, captured_values, literal_fields}
 use Rattle.obq_windows.specs.Places.{Place, outside_at}
 use Rattle.obq_windows.specs.Trees.{alias_of, names_at}
 use Rattle.obq_windows.specs.Values.{ClosureValue, ExceptionValue, IntValue, IsMadeTable, LocationValue, OkayValue, PlainValue, Table, TextValue, ThreadValue, TruthValue}
+use Rattle.obq_windows.proofs.Closing.{made_read}
 use Rattle.obq_windows.proofs.Depths.{captured_complete, captured_count}
 
 module _ {R : Type 0} (T : Table R) where
@@ -50,8 +51,11 @@ module _ {R : Type 0} (T : Table R) where
   literal_complete w thread count [] p (DoneMethod x q ∷ done) h hp k = absurd h
   literal_complete w thread count (number ∷ numbers) p (DoneMethod x (AProc params b place) ∷ done) h hp k = (
     (
-      subst (λ (o : Option Proc). Knows (number ∷ []) (captured_values T p (captured_by (outside_at T p) (names_at p) (AProc params b place))) o) (sym h.0) (captured_count T p (captured_by (outside_at T p) (names_at p) (AProc params b place)), λ j l. absurd (none_below j l)),
-      captured_complete T w p hp (captured_by (outside_at T p) (names_at p) (AProc params b place)),
+      (
+        subst (λ (o : Option Proc). Knows (number ∷ []) (captured_values T p (captured_by (outside_at T p) (names_at p) (AProc params b place))) o) (sym h.0) (captured_count T p (captured_by (outside_at T p) (names_at p) (AProc params b place)), λ j l. absurd (none_below j l)),
+        captured_complete T w p hp (captured_by (outside_at T p) (names_at p) (AProc params b place)),
+      ),
+      subst (λ (v : Value R). IsClosed v) (sym (made_read T number numbers p params b place h.0)) tt,
     ),
     literal_complete w thread (suc count) numbers p done h.1 hp k,
   )

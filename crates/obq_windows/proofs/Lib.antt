@@ -1,3 +1,4 @@
+pub mod ActRows
 pub mod Acts
 pub mod Alike
 pub mod AlikeCalls
@@ -26,11 +27,13 @@ pub mod KeepsResults
 pub mod Lists
 pub mod Literals
 pub mod Members
+pub mod Objects
 pub mod Openings
 pub mod Operators
 pub mod Raises
 pub mod Recursion
 pub mod Results
+pub mod Rows
 pub mod Running
 pub mod Selves
 pub mod Slots

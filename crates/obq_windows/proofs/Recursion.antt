@@ -1,6 +1,6 @@
 -- A window that runs `let rec f := proc(n) if n is 0 then 5 else f(n - 1) end end f(2)`: a member calls itself by its group, and the run
 -- computes to the steps of the opening.
-use Rattle.std.specs.Prelude.{List, Some, [], codes, drop, length, pos, refl, true, ℕ, ◌-◌, ◌∷◌, ◌≡◌}
+use Rattle.std.specs.Prelude.{List, Some, [], drop, length, pos, refl, true, ℕ, ◌-◌, ◌∷◌, ◌≡◌}
 use Rattle.obq_base.specs.declared.code.Node.TheVariants as n
 use Rattle.obq_base.specs.declared.code.Slot.TheVariants as s
 use Rattle.obq_base.specs.Tree.{ABlock, ALink, AProc, ARecBind, ASuffix, AnArm, AnExpr, AnItem, ApplySuffix, BlockOf, BlockTree, ChainTree, ExprTree, IfTree, IntTree, LetRecItem, NameTree, NoArms, NoExprs, NoItems, NoLinks, NoRecBinds, NoSuffixes, PlainItem, SuffixedTree}
@@ -14,7 +14,7 @@ use Rattle.obq_model.specs.Resolved.{code_at}
 use Rattle.obq_model.specs.Skipped.{skipped}
 use Rattle.obq_model.specs.Step.{no_self}
 use Rattle.obq_model.specs.Store.{same_loc}
-use Rattle.obq_model.specs.Terms.{Apply, Bytes, Const, Int, LetRec, Member}
+use Rattle.obq_model.specs.Terms.{Bytes, Const, Int}
 use Rattle.obq_windows.specs.Programs.{store_of}
 use Rattle.obq_windows.specs.Runs.{AtBottom, Ran, pure_steps, run_nodes}
 use Rattle.obq_windows.specs.Values.{IntValue, NoValues}

@@ -37,7 +37,7 @@ selves_field T n p x (AliasOf y e place) = refl
 selves_pend : {R : Type 0} → (T : Table R) (a : Self R) (p : Place R) (pending : PendingForm R) → self_at a (pending_frames T p pending) ≡ self_by pending a
 selves_pend T a p (PendingThen is) = refl
 selves_pend T a p (PendingLet x bs is) = refl
-selves_pend T a p (PendingObject flags done x other fields) = refl
+selves_pend T a p (PendingObject flags done x other rest) = refl
 selves_pend T a p (PendingVar x bs is) = refl
 selves_pend T a p (PendingIf b arms last) = refl
 selves_pend T a p (PendingChain op e links) = selves_links T a p (ALink op e 0 links)

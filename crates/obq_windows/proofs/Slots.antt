@@ -11,7 +11,7 @@ use Rattle.obq_model.specs.Draft.{Both, Done, Draft, Plain}
 use Rattle.obq_model.specs.Put.{among}
 use Rattle.obq_model.specs.Resolved.{IsCode}
 use Rattle.obq_model.specs.Scopes.{is_covered, last_place, last_place_from, slot_of, slot_or, slots_of}
-use Rattle.obq_model.specs.Terms.{Array, Bytes, Condition, Engine, Member, Object, Variable, Writer}
+use Rattle.obq_model.specs.Terms.{Array, Bytes, Condition, Engine, Object, Variable, Writer}
 use Rattle.obq_model.proofs.Among.{bytes_sym, true_false}
 use Rattle.obq_model.proofs.Drafted.{Drafted}
 use Rattle.obq_model.proofs.Places.{among_place, or_else, place_below, place_found}

@@ -8,6 +8,7 @@ pub mod Moves
 pub mod Places
 pub mod Programs
 pub mod Results
+pub mod Rows
 pub mod Runs
 pub mod Trees
 pub mod Values

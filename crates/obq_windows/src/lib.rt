@@ -4,6 +4,7 @@
 ghost use Rattle.obq_windows.specs.Acts.{AnswersRead, SelfIsOwn, WindowsBegin};
 ghost use Rattle.obq_windows.specs.Laws.{OpeningReads, OpeningRuns, RunMoves, StepsAreThose, TreeMoves, WindowMoves};
 ghost use Rattle.obq_windows.specs.Programs.{ProgramsAgree, ProgramsRun};
+ghost use Rattle.obq_windows.specs.Rows.{AgainReads, ImportReads, NewReads, RowsComplete, RowsRead, ThreadsRead};
 
 /// What stands next in the term of a window over trees is what its move says.
 pub fn tree_moves<R>()
@@ -36,6 +37,37 @@ pub fn self_is_own<R>()
 /// calls, where the caller's window lies elsewhere.
 pub fn windows_begin<R>()
     ensures law { WindowsBegin R }
+{}
+
+/// What an act on one cell does, as code over plain values does it, is what its row does in terms: the same waits, the cell that it leaves, and
+/// at the act's form what the answer leaves there.
+pub fn rows_read<R, X>()
+    ensures law { RowsRead R X }
+{}
+
+/// Such an act leaves a complete cell, and its answer is one that may stand at its form.
+pub fn rows_complete<R>()
+    ensures law { RowsComplete R }
+{}
+
+/// The same of a watch that takes its mutex again, of an import, and of an operation that makes a cell.
+pub fn again_reads<R, X>()
+    ensures law { AgainReads R X }
+{}
+
+/// See `again_reads`.
+pub fn import_reads<R, X>()
+    ensures law { ImportReads R X }
+{}
+
+/// See `again_reads`.
+pub fn new_reads<R>()
+    ensures law { NewReads R }
+{}
+
+/// What a fork, a join and an export leave is what their answers say: a thread or the raising of `fork_limit`, how the thread ended, and `ok`.
+pub fn threads_read<R>()
+    ensures law { ThreadsRead R }
 {}
 
 /// Those pure steps are the ones that a journal's entry counts.
