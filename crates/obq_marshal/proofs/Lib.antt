@@ -1,1 +1,3 @@
 mod Travel
+mod InOrder
+mod InRange

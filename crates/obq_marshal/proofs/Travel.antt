@@ -18,28 +18,25 @@ use Rattle.obq_base.specs.declared.values.Value.TheVariants as v
 use Rattle.obq_wire.specs.declared.values.TableEntry.{TableEntry}
 use Rattle.obq_wire.specs.declared.values.WireValue.{WireValue}
 use Rattle.obq_wire.specs.declared.values.WireValue.TheVariants as w
+use Rattle.obq_wire.proofs.WalkLaws.{all_push}
 use Rattle.obq_marshal.specs.Groups.{Cached, Unpacked, cached, closure_of, depth_over, greatest_depth, group_of, same_key, so_far, unpacked, unpacked_entry, unpacked_group, value_of, with_group}
 use Rattle.obq_marshal.specs.Meaning.{Agrees, AreMeant, Meaning, nothing, int, truth, okay, text, exception, closure, reference, thread}
 use Rattle.obq_marshal.specs.Packing.{After, Placed, after, as_closure, entered, in_turn, index_of, pack_value, pack_values, packed, place, with_made}
 
-both : (a b : Bool) → (a && b) ≡ true → (a ≡ true) × (b ≡ true)
+pub both : (a b : Bool) → (a && b) ≡ true → (a ≡ true) × (b ≡ true)
 both true b h = (refl, h)
 both false b h = absurd (true≢false (sym h))
 
-key_is : (a b : ℕ × ℕ) → same_key a b ≡ true → (a.0 ≡ b.0) × (a.1 ≡ b.1)
+pub key_is : (a b : ℕ × ℕ) → same_key a b ≡ true → (a.0 ≡ b.0) × (a.1 ≡ b.1)
 key_is a b h = let h2 = both (a.0 == b.0) (a.1 == b.1) h in (eqb-true a.0 b.0 h2.0, eqb-true a.1 b.1 h2.1)
 
-is_none : {X : Type 0} (o : Option X) → is_some o ≡ false → o ≡ None
+pub is_none : {X : Type 0} (o : Option X) → is_some o ≡ false → o ≡ None
 is_none None h = refl
 is_none (Some x) h = absurd (true≢false h)
 
-has_one : {X : Type 0} (o : Option X) → is_some o ≡ true → (x : X) × (o ≡ Some x)
+pub has_one : {X : Type 0} (o : Option X) → is_some o ≡ true → (x : X) × (o ≡ Some x)
 has_one None h = absurd (true≢false (sym h))
 has_one (Some x) h = (x, refl)
-
-all_push : {X : Type 0} (P : X → Type 0) (xs : List X) (x : X) → AllByRecursion P xs → P x → AllByRecursion P (xs ++ x ∷ [])
-all_push P [] x all p = (p, tt)
-all_push P (y ∷ ys) x all p = (all.0, all_push P ys x all.1 p)
 
 get_front : {X : Type 0} (xs ys : List X) (i : ℕ) (x : X) → slice_get xs i ≡ Some x → slice_get (xs ++ ys) i ≡ Some x
 get_front [] ys i x h = absurd (true≢false (ap is_some (sym h)))
@@ -55,6 +52,10 @@ with_parts g captured depth = record { number = g.number; codes = g.codes; captu
 
 depth_is : (g : Group) → g.depth ≡ greatest_depth g.captured + 1 → g.depth ≤ CLOSURE_LIMIT → depth_over g.captured ≡ g.depth
 depth_is g deep limit = ap (min 65535) (sym deep) ∙ min-eq_right (omega (arith, limit))
+
+-- the key of an entry is its group's number
+abbrev pub IsKeyed : (ℕ × ℕ) × TableEntry → Type 0
+IsKeyed p = p.0 ≡ (p.1.number.thread, p.1.number.n)
 
 module _ (M : Meaning) where
   abbrev number_meant : TableEntry → Group
@@ -111,9 +112,6 @@ module _ (M : Meaning) where
       (rest.0 ∙ ap (λ gs. gs ++ meant es) step.0 ∙ append_assoc u.groups (number_meant e ∷ []) (meant es), rest.1)
 
   -- ---- packing
-
-  abbrev IsKeyed : (ℕ × ℕ) × TableEntry → Type 0
-  IsKeyed p = p.0 ≡ (p.1.number.thread, p.1.number.n)
 
   abbrev groups : Placed → List Group
   groups placed = meant (values_of placed)

@@ -1,3 +1,4 @@
 pub mod Groups
 pub mod Packing
 pub mod Meaning
+pub mod Sendable

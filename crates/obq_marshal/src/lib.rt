@@ -9,7 +9,7 @@ mod unpacking;
 
 pub use cache::ImportCache;
 pub use carried::Carried;
-pub use laws::closures_travel;
+pub use laws::{closures_travel, packed_in_order, packed_in_range};
 pub use packing::pack;
 
 #[cfg(test)]

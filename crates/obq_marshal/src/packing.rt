@@ -1,6 +1,6 @@
 //! Values of a site over a table of the closed groups that they need.
 
-ghost use Rattle.std.specs.Prelude.{◌≡◌, [], IfOk, option_map};
+ghost use Rattle.std.specs.Prelude.{◌≡◌, ◌<◌, ◌^◌, [], IfOk, length};
 ghost use Rattle.std.specs.Map.{values_of};
 ghost use Rattle.obq_marshal.specs.Packing.{after, index_of, pack_group, pack_value, pack_values, packed, entered};
 
@@ -129,7 +129,7 @@ impl Packing {
     }
 }
 
-/// So many entries are never placed that an index doesn't fit.
+/// A number of entries, or the index of one, as a frame has it.
 fn narrowed(index: usize) -> Result<u32, NoMemory>
     ensures { IfOk result (λ i. i ≡ index) }
 {
@@ -139,12 +139,14 @@ fn narrowed(index: usize) -> Result<u32, NoMemory>
     }
 }
 
-/// The values over the table of the closed groups that they need.
+/// The values over the table of the closed groups that they need. A table that a frame can't count is `NoMemory`, too.
 pub fn pack(alloc: Global, values: &[Value]) -> Result<Carried, NoMemory>
-    ensures { IfOk result (λ c. c ≡ packed values.now) }
+    ensures carried { IfOk result (λ c. c ≡ packed values.now) }
+    ensures count { IfOk result (λ c. length c.table < 2 ^ 32) }
 {
     let mut packing = Packing::new(alloc);
     let values = packing.pack_values(values)?;
     let table = packing.into_table()?;
+    narrowed(table.len())?;
     Ok(Carried { table, values })
 }

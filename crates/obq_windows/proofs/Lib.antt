@@ -27,6 +27,7 @@ pub mod KeepsResults
 pub mod Lists
 pub mod Literals
 pub mod Members
+pub mod Objects
 pub mod Openings
 pub mod Operators
 pub mod Raises
