@@ -11,9 +11,11 @@ done
 for folder in examples/*/; do
     sites=
     for source in "$folder"*.obq; do
+        [ -e "$source" ] || continue
         name=$(basename "$source" .obq)
         sites="$sites $name=$source"
     done
+    [ -n "$sites" ] || continue
     printf '%s:\n' "$folder"
     # shellcheck disable=SC2086 # one word a site
     ./obliq check $sites || status=1

@@ -6,6 +6,3 @@ mod status;
 
 pub use lines::{LinkLine, ReportLine, link_line, report_line};
 pub use status::status_of;
-
-#[cfg(test)]
-mod tests;

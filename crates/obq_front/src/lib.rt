@@ -9,6 +9,3 @@ mod single;
 pub use examine::front;
 pub use obq_base::SourceFault;
 pub use program::{FrontRefused, Program, Source};
-
-#[cfg(test)]
-mod tests;

@@ -13,6 +13,3 @@ pub use journals::Journal;
 pub use laws::written_is_read;
 pub use reading::{JournalRefused, read_journal};
 pub use writing::write_journal;
-
-#[cfg(test)]
-mod tests;

@@ -1,6 +1,7 @@
--- How many activations a term has, and how many are around its focus.
-use Rattle.std.specs.Prelude.{Bool, List, None, Option, Some, T, [], bytes_eq, drop, false, if◌then◌else◌, int_div, int_lt, int_rem, length, nat_lt, negsuc, not, pos, refl, replicate, suc, take, true, zero, ℕ, ℤ, ◌*ℤ◌, ◌++◌, ◌+ℤ◌, ◌+◌, ◌-ℤ◌, ◌==◌, ◌<◌, ◌∷◌, ◌≡◌, ◌≤◌, ◌⊎◌}
-use Rattle.std.proofs.Common.{inl, inr, subst, ap, sym, ◌∙◌, arith, length-append}
+-- The activations of a term, and those around its focus.
+use Rattle.std.specs.Prelude.{Bool, List, None, Option, Some, [], bytes_eq, drop, false, if◌then◌else◌, int_div, int_lt, int_rem, length, nat_lt, negsuc, not, pos, refl, replicate, suc, take, true, zero, ℕ, ℤ, ◌*ℤ◌, ◌++◌, ◌+ℤ◌, ◌+◌, ◌-ℤ◌, ◌==◌, ◌<◌, ◌∷◌, ◌≡◌, ◌≤◌, ◌⊎◌}
+use Rattle.std.proofs.Common.{inl, inr, subst, ap, sym, ◌∙◌, arith, length-append, true≢false}
+use Rattle.std.proofs.lemmas.List.{append-nil}
 use Rattle.std.proofs.lemmas.Bool.Decides.{nat_tests}
 use Rattle.obq_base.specs.declared.limits.TheConstants.{ARRAY_LIMIT, CLOSURE_LIMIT, TEXT_LIMIT}
 use Rattle.obq_base.specs.declared.trees.Flags.{Flags}
@@ -11,41 +12,40 @@ use Rattle.obq_model.specs.Depth.{deepest_of, is_too_deep}
 use Rattle.obq_model.specs.Exceptions.{raising, arity, int_overflow, text_limit, text_range, array_limit, field_twice, call_limit, closure_limit}
 use Rattle.obq_model.specs.Builtins.{is_i64, number, divided, same, compared, operate, part, arity_of_builtin}
 use Rattle.obq_model.specs.Store.{ObjectCell, ArrayCell, field_names, twice}
-use Rattle.obq_model.specs.Step.{Self, Itself, New, CallMethod, Set, EachItem, RunEngine, is_operand, Frame, Pending, values_before, self_within, self_in, activations_in, Found, Next, Needs, Done, Uncaught, part_at, params_of, body_with, is_call_limit, call_closure, with_one_parameter, call_engine, call_value, call, fields_of, layout_names, new_object, objects, clone, array_of_size, fork_of, apply, counting, choose, out_of_method, chosen, tested, watching, cloned, row, out_of_loop, out_of_try, at_raised, through, find, find_part, activations_at, Operation}
+use Rattle.obq_model.specs.Step.{Self, Itself, New, CallMethod, Set, EachItem, RunEngine, is_operand, Frame, Pending, values_before, self_within, self_in, activations_in, Found, Next, Needs, Done, Uncaught, part_at, params_of, body_with, is_call_limit, call_closure, with_one_parameter, call_engine, call_value, call, fields_of, layout_names, new_object, objects, clone, array_of_size, fork_of, apply, counting, choose, out_of_method, chosen, tested, watching, cloned, row, out_of_loop, out_of_try, at_raised, through, find, find_part, activations_at, Leave, Operation}
 use Rattle.obq_model.specs.Forms.{IsSourceKind, IsSource, AreSource, IsSourceValue, AllSource, IsFormed, AreFormed}
 use Rattle.obq_model.specs.Located.{activations_of, activations_of_parts}
+use Rattle.obq_laws.specs.ActivationSites.{objects_in, objects_of, objects_of_parts, objects_around, left_objects, Listed, FoundObjects}
 use Rattle.obq_laws.specs.Activations.{left_by, may_enter, Activated, FoundActivations}
 use Rattle.obq_laws.proofs.Source.{source_enter, source_put_members, source_part_at, all_source-formed}
 use Rattle.obq_model.proofs.Found.{done_value}
+use Rattle.obq_model.proofs.Slices.{push_length}
 use Rattle.obq_laws.proofs.Methods.{source_body, source_snoc}
 
 -- ---- source terms have none
 
-source_in : {R : Type 0} (n : ℕ) (k : Kind R) → IsSourceKind k → activations_in n k ≡ n
-source_in n (Within o m) h = absurd h
-source_in n Called h = absurd h
-source_in n k h = refl
+source_in : {R : Type 0} (os : List (Option R)) (k : Kind R) → IsSourceKind k → objects_in os k ≡ os
+source_in os (Within o m) h = absurd h
+source_in os Called h = absurd h
+source_in os k h = refl
 
 mutual
-  pub source_none : {R : Type 0} (t : Term R) → IsSource t → activations_of t ≡ 0
-  source_none (Const v) h = refl
-  source_none (Name x) h = refl
-  source_none (Under names t) h = refl
-  source_none (Form k parts) h = source_in (activations_of_parts parts) k h.0 ∙ sources_none parts h.1
+  pub source_bare : {R : Type 0} (t : Term R) → IsSource t → objects_of t ≡ []
+  source_bare (Const v) h = refl
+  source_bare (Name x) h = refl
+  source_bare (Under names t) h = refl
+  source_bare (Form k parts) h = source_in (objects_of_parts parts) k h.0 ∙ sources_bare parts h.1
 
-  pub sources_none : {R : Type 0} (parts : Parts R) → AreSource parts → activations_of_parts parts ≡ 0
-  sources_none End h = refl
-  sources_none (Part t parts) h = ap (λ n. n + activations_of_parts parts) (source_none t h.0) ∙ ap (λ n. 0 + n) (sources_none parts h.1)
+  pub sources_bare : {R : Type 0} (parts : Parts R) → AreSource parts → objects_of_parts parts ≡ []
+  sources_bare End h = refl
+  sources_bare (Part t parts) h = ap (λ os. os ++ objects_of_parts parts) (source_bare t h.0) ∙ sources_bare parts h.1
 
 -- ---- the rows
 
-true_false : true ≡ false → ⊥
-true_false e = subst T e tt
-
 -- what a row gives: no activation, or one where there is room; an act's form that leaves none
 abbrev Here : {R : Type 0} → ℕ → Found R → Type 0
-Here a (Next u) = (activations_of u ≡ 0) ⊎ ((activations_of u ≡ 1) × (a < 1000))
-Here a (Needs op fs) = (fs ≡ []) × (left_by op ≡ 0) × (may_enter op ≡ true → a < 1000)
+Here a (Next u) = (objects_of u ≡ []) ⊎ ((objects_of u ≡ None ∷ []) × (a < 1000))
+Here a (Needs op fs) = (fs ≡ []) × (left_objects op ≡ []) × (may_enter op ≡ true → a < 1000)
 Here a (Done v) = ⊥
 Here a (Uncaught r) = Unit {0}
 
@@ -62,14 +62,14 @@ term_if a true t u h i = h
 term_if a false t u h i = i
 
 never : {P : Type 0} → false ≡ true → P
-never e = absurd (true_false (sym e))
+never e = absurd (true≢false (sym e))
 
 room : (a : ℕ) → is_call_limit a ≡ false → a < 1000
 room a h = grind (arith, nat_tests)
 
 here_closure : {R : Type 0} (a : ℕ) (f : Value R) (vs : List (Value R)) (o : Option (List Bytes)) → a < 1000 → IsSourceValue f → AllSource vs → Here a (call_closure f vs o)
 here_closure a f vs None l h k = inl refl
-here_closure a f vs (Some params) l h k = here_if a (length params == length vs) (Next (Form Called (Part (body_with f vs) End))) (Next arity) (inr (ap suc (sources_none (Part (body_with f vs) End) (source_body f vs h k, tt)), l)) (inl refl)
+here_closure a f vs (Some params) l h k = here_if a (length params == length vs) (Next (Form Called (Part (body_with f vs) End))) (Next arity) (inr (ap (λ os. os ++ None ∷ []) (sources_bare (Part (body_with f vs) End) (source_body f vs h k, tt)), l)) (inl refl)
 
 here_one : {R : Type 0} (a : ℕ) (e : R) (f : Value R) (o : Option (List Bytes)) → a < 1000 → Here a (with_one_parameter e f o)
 here_one a e f None l = inl refl
@@ -170,15 +170,15 @@ here_operate a eq _ _ _ = inl refl
 here_counting : {R : Type 0} (a : ℕ) (i n : ℤ) (scope : Term R) → IsSource scope → Here a (Next (counting i n scope))
 here_counting a i n scope h =
     term_if a (int_lt n i) (Const Okay) (Form (Counting i n) (Part (enter (Int i ∷ []) scope) (Part scope End))) (inl refl)
-    (inl (sources_none (Part (enter (Int i ∷ []) scope) (Part scope End)) (source_enter (Int i ∷ []) scope (tt, tt) h, (h, tt))))
+    (inl (sources_bare (Part (enter (Int i ∷ []) scope) (Part scope End)) (source_enter (Int i ∷ []) scope (tt, tt) h, (h, tt))))
 
 here_choose : {R : Type 0} (a : ℕ) (e : Bytes) (arms : Parts R) → AreSource arms → Here a (Next (choose e arms))
-here_choose a e (Part guard (Part block arms)) h = inl (sources_none (Part guard (Part block arms)) h)
-here_choose a e (Part block End) h = inl (sources_none (Part block End) h)
+here_choose a e (Part guard (Part block arms)) h = inl (sources_bare (Part guard (Part block arms)) h)
+here_choose a e (Part block End) h = inl (sources_bare (Part block End) h)
 here_choose a e End h = inl refl
 
 here_chosen : {R : Type 0} (a : ℕ) (e : Bytes) (v : Value R) (block : Term R) (arms : Parts R) → IsSource block → AreSource arms → Here a (chosen e v block arms)
-here_chosen a e (Exc f) block arms h k = term_if a (bytes_eq e f) block (choose e arms) (inl (source_none block h)) (here_choose a e arms k)
+here_chosen a e (Exc f) block arms h k = term_if a (bytes_eq e f) block (choose e arms) (inl (source_bare block h)) (here_choose a e arms k)
 here_chosen a e _ block arms h k = inl refl
 
 here_tested : {R : Type 0} (a : ℕ) (o c : R) (v : Value R) (guard : Term R) → Here a (tested o c v guard)
@@ -187,7 +187,7 @@ here_tested a o c (Truth false) guard = (refl, refl, never)
 here_tested a o c _ guard = inl refl
 
 here_watching : {R : Type 0} (a : ℕ) (o : Option R) (b : Bool) (c : R) (guard : Term R) → IsSource guard → Here a (watching o b c guard)
-here_watching a (Some o) false c guard h = inl (sources_none (Part guard (Part guard End)) (h, (h, tt)))
+here_watching a (Some o) false c guard h = inl (sources_bare (Part guard (Part guard End)) (h, (h, tt)))
 here_watching a (Some o) true c guard h = inl refl
 here_watching a None b c guard h = inl refl
 
@@ -204,18 +204,18 @@ IsNoActivation k = Unit {0}
 
 here_row : {R : Type 0} (eq : R → R → Bool) (a : ℕ) (s : Self R) (k : Kind R) (vs : List (Value R)) (parts : Parts R) → IsNoActivation k → AllSource vs → AreSource parts → Here a (row eq a s k vs parts)
 here_row eq a s Empty [] End z h p = inl refl
-here_row eq a s Then (v ∷ []) (Part rest End) z h p = inl (source_none rest p.0)
-here_row eq a s Let (v ∷ []) (Part scope End) z h p = inl (source_none (enter (v ∷ []) scope) (source_enter (v ∷ []) scope h p.0))
+here_row eq a s Then (v ∷ []) (Part rest End) z h p = inl (source_bare rest p.0)
+here_row eq a s Let (v ∷ []) (Part scope End) z h p = inl (source_bare (enter (v ∷ []) scope) (source_enter (v ∷ []) scope h p.0))
 here_row eq a s Var (v ∷ []) (Part scope End) z h p = (refl, refl, never)
 here_row eq a s LetRec [] (Part (Under names (Form Group (Part rest group))) End) z h p =
     term_if a (nat_lt CLOSURE_LIMIT (deepest_of group)) closure_limit (put_members names group 0 names rest) (inl refl)
-    (inl (source_none (put_members names group 0 names rest) (source_put_members names group 0 names rest p.0.1.1 p.0.1.0)))
+    (inl (source_bare (put_members names group 0 names rest) (source_put_members names group 0 names rest p.0.1.1 p.0.1.0)))
 here_row eq a s Procedure [] (Part (Under params body) End) z h p = term_if a (is_too_deep body) closure_limit (Const (Closure params body)) (inl refl) (inl refl)
 here_row eq a s Assign (v ∷ []) (Part (Form (Read q) End) End) z h p = (refl, refl, never)
 here_row eq a s Assign (v ∷ []) (Part target End) z h p = inl refl
-here_row eq a s If (Truth c ∷ []) (Part block (Part otherwise End)) z h p = term_if a c block otherwise (inl (source_none block p.0)) (inl (source_none otherwise p.1.0))
-here_row eq a s OrIf (Truth c ∷ []) (Part right End) z h p = term_if a c (Const (Truth true)) right (inl refl) (inl (source_none right p.0))
-here_row eq a s AndIf (Truth c ∷ []) (Part right End) z h p = term_if a c right (Const (Truth false)) (inl (source_none right p.0)) (inl refl)
+here_row eq a s If (Truth c ∷ []) (Part block (Part otherwise End)) z h p = term_if a c block otherwise (inl (source_bare block p.0)) (inl (source_bare otherwise p.1.0))
+here_row eq a s OrIf (Truth c ∷ []) (Part right End) z h p = term_if a c (Const (Truth true)) right (inl refl) (inl (source_bare right p.0))
+here_row eq a s AndIf (Truth c ∷ []) (Part right End) z h p = term_if a c right (Const (Truth false)) (inl (source_bare right p.0)) (inl refl)
 here_row eq a s (Operate op) (v ∷ w ∷ []) End z h p = here_operate a eq op v w
 here_row eq a s Call (f ∷ vs) End z h p = here_call a f vs h.0 h.1
 here_row eq a s (Apply q) vs End z h p = here_if a (length vs == arity_of_builtin q) (apply q vs) (Next arity) (here_apply a q vs) (inl refl)
@@ -232,24 +232,24 @@ here_row eq a s Redirect (Loc Object q ∷ Loc Object r ∷ []) End z h p = (ref
 here_row eq a s Clone vs End z h p = here_clone a (objects vs)
 here_row eq a s Raise (Exc e ∷ []) End z h p = inl refl
 here_row eq a s Exit [] End z h p = inl refl
-here_row eq a s Loop [] (Part body End) z h p = inl (sources_none (Part body (Part body End)) (p.0, (p.0, tt)))
+here_row eq a s Loop [] (Part body End) z h p = inl (sources_bare (Part body (Part body End)) (p.0, (p.0, tt)))
 here_row eq a s For (Int m ∷ Int n ∷ []) (Part scope End) z h p = here_counting a m n scope p.0
 here_row eq a s Foreach (Loc Array r ∷ []) (Part scope End) z h p = (refl, refl, never)
 here_row eq a s Try (v ∷ []) arms z h p = inl refl
-here_row eq a s Finally (v ∷ []) (Part last End) z h p = inl (sources_none (Part last (Part (Const v) End)) (p.0, (h.0, tt)))
+here_row eq a s Finally (v ∷ []) (Part last End) z h p = inl (sources_bare (Part last (Part (Const v) End)) (p.0, (h.0, tt)))
 here_row eq a s Watch (Loc Condition c ∷ []) (Part guard End) z h p = here_watching a s.object s.plain c guard p.0
 here_row eq a s (Read q) [] End z h p = (refl, refl, never)
 here_row eq a s (Raising r) [] End z h p = tt
 here_row eq a s Called vs parts z h p = absurd z
 here_row eq a s (Within q m) vs parts z h p = absurd z
-here_row eq a s Looping (v ∷ []) (Part body End) z h p = inl (sources_none (Part body (Part body End)) (p.0, (p.0, tt)))
+here_row eq a s Looping (v ∷ []) (Part body End) z h p = inl (sources_bare (Part body (Part body End)) (p.0, (p.0, tt)))
 here_row eq a s (Counting i n) (v ∷ []) (Part scope End) z h p = here_counting a (i +ℤ pos 1) n scope p.0
 here_row eq a s (EachAt r i n) [] (Part scope End) z h p = here_if a (i == n) (Next (Const Okay)) (Needs (EachItem r i n scope) []) (inl refl) (refl, refl, never)
-here_row eq a s (EachIn r i n) (v ∷ []) (Part scope End) z h p = inl (sources_none (Part scope End) p)
+here_row eq a s (EachIn r i n) (v ∷ []) (Part scope End) z h p = inl (sources_bare (Part scope End) p)
 here_row eq a s (Choosing e) (v ∷ []) (Part block arms) z h p = here_chosen a e v block arms p.0 p.1
-here_row eq a s (Unmet e) [] (Part block End) z h p = inl (source_none block p.0)
+here_row eq a s (Unmet e) [] (Part block End) z h p = inl (source_bare block p.0)
 here_row eq a s (Unmet e) [] End z h p = inl refl
-here_row eq a s Finishing (v ∷ []) (Part kept End) z h p = inl (source_none kept p.0)
+here_row eq a s Finishing (v ∷ []) (Part kept End) z h p = inl (source_bare kept p.0)
 here_row eq a s (Cloning flags copied rest) [] End z h p = here_cloned a flags copied rest
 here_row eq a s (Testing q c) (v ∷ []) (Part guard End) z h p = here_tested a q c v guard
 here_row eq a s (Lined q c) [] (Part guard End) z h p = (refl, refl, never)
@@ -268,7 +268,7 @@ here_try a arms (Exn e) h = here_choose a e arms h
 
 here_raised : {R : Type 0} (a : ℕ) (k : Kind R) (before : List (Value R)) (after : Parts R) (r : Raised) → IsNoActivation k → AreSource after → Here a (at_raised (Pending k before after) r)
 here_raised a Try before after r z h = here_try a after r h
-here_raised a Finally before after r z h = inl (sources_none (Part (part_at after 0) (Part (raising r) End)) (source_part_at after 0 h, ((tt, tt), tt)))
+here_raised a Finally before after r z h = inl (sources_bare (Part (part_at after 0) (Part (raising r) End)) (source_part_at after 0 h, ((tt, tt), tt)))
 here_raised a Called before after r z h = absurd z
 here_raised a (Within q m) before after r z h = absurd z
 here_raised a Looping before after r z h = here_loop _ a r
@@ -281,13 +281,13 @@ here_raised a _ before after r z h = tt
 
 -- ---- around a hole
 
-of_here : {R : Type 0} (a : ℕ) (x : Found R) → Here a x → Activated a 0 x
+of_here : {R : Type 0} (a : ℕ) (x : Found R) → Here a x → Listed a [] x
 of_here a (Next u) (inl e) = inl e
 of_here a (Next u) (inr h) = inr (inl (h.0, room_for a h.1))
   where
     room_for : (a : ℕ) → a < 1000 → a + 1 ≤ 1000
     room_for a l = omega arith
-of_here a (Needs op fs) h = (ap (λ n. a + n) (sym h.1) ∙ ap (λ gs. activations_at a gs + left_by op) (sym h.0), (λ e. same_room a (h.2 e)))
+of_here a (Needs op fs) h = (sym h.1 ∙ ap (λ gs. objects_around gs (left_objects op)) (sym h.0), (λ e. same_room a (h.2 e)))
   where
     same_room : (a : ℕ) → a < 1000 → a + 0 < 1000
     same_room a l = omega arith
@@ -299,92 +299,78 @@ no_activation_in n Called z = absurd z
 no_activation_in n (Within o m) z = absurd z
 no_activation_in n k z = refl
 
-pub none_before : {R : Type 0} (vs : List (Value R)) (parts : Parts R) → activations_of_parts (values_before vs parts) ≡ activations_of_parts parts
-none_before [] parts = refl
-none_before (v ∷ vs) parts = ap (λ n. 0 + n) (none_before vs parts) ∙ zero_plus (activations_of_parts parts)
-  where
-    zero_plus : (n : ℕ) → 0 + n ≡ n
-    zero_plus n = omega arith
+no_object_in : {R : Type 0} (os : List (Option R)) (k : Kind R) → IsNoActivation k → objects_in os k ≡ os
+no_object_in os Called z = absurd z
+no_object_in os (Within o m) z = absurd z
+no_object_in os k z = refl
+
+pub bare_before : {R : Type 0} (vs : List (Value R)) (parts : Parts R) → objects_of_parts (values_before vs parts) ≡ objects_of_parts parts
+bare_before [] parts = refl
+bare_before (v ∷ vs) parts = bare_before vs parts
+
+pub with_bare : {R : Type 0} (u : Term R) (after : Parts R) → AreSource after → objects_of u ++ objects_of_parts after ≡ objects_of u
+with_bare u after h = ap (λ os. objects_of u ++ os) (sources_bare after h) ∙ append-nil (objects_of u)
 
 -- the activations of a form are those of its hole
-in_hole : {R : Type 0} (k : Kind R) (before : List (Value R)) (u : Term R) (after : Parts R) → IsNoActivation k → AreSource after → activations_of (Form k (values_before before (Part u after))) ≡ activations_of u
-in_hole k before u after z h =
-    no_activation_in (activations_of_parts (values_before before (Part u after))) k z ∙ none_before before (Part u after) ∙ ap (λ n. activations_of u + n) (sources_none after h) ∙ plus_zero (activations_of u)
-  where
-    plus_zero : (n : ℕ) → n + 0 ≡ n
-    plus_zero n = omega arith
+in_hole : {R : Type 0} (k : Kind R) (before : List (Value R)) (u : Term R) (after : Parts R) → IsNoActivation k → AreSource after → objects_of (Form k (values_before before (Part u after))) ≡ objects_of u
+in_hole k before u after z h = no_object_in (objects_of_parts (values_before before (Part u after))) k z ∙ bare_before before (Part u after) ∙ with_bare u after h
 
-next_in : {R : Type 0} (a n : ℕ) (u w : Term R) → activations_of w ≡ activations_of u → Activated a n (Next u) → Activated a n (Next w)
-next_in a n u w e (inl h) = inl (e ∙ h)
-next_in a n u w e (inr (inl h)) = inr (inl (e ∙ h.0, h.1))
-next_in a n u w e (inr (inr h)) = inr (inr (h ∙ ap suc (sym e)))
+next_in : {R : Type 0} (a : ℕ) (os : List (Option R)) (u w : Term R) → objects_of w ≡ objects_of u → Listed a os (Next u) → Listed a os (Next w)
+next_in a os u w e (inl h) = inl (e ∙ h)
+next_in a os u w e (inr (inl h)) = inr (inl (e ∙ h.0, h.1))
+next_in a os u w e (inr (inr (x, h))) = inr (inr (x, h ∙ ap (λ l. x ∷ l) (sym e)))
 
-acts_through : {R : Type 0} (a n : ℕ) (k : Kind R) (before : List (Value R)) (after : Parts R) (g : Value R → Found R) (x : Found R) → IsNoActivation k → AreSource after → ((v : Value R) → IsSourceValue v → Activated a 0 (g v)) → ((v : Value R) → x ≡ Done v → IsSourceValue v)
-    → Activated (activations_in a k) n x → Activated a n (through (Pending k before after) g x)
-acts_through a n k before after g (Next u) z p next source h = next_in a n u (Form k (values_before before (Part u after))) (in_hole k before u after z p) (subst (λ b. Activated b n (Next u)) (no_activation_in a k z) h)
-acts_through a n k before after g (Needs op fs) z p next source h =
-    (ap (λ b. b + n) (sym (no_activation_in a k z)) ∙ h.0, (λ e. subst (λ b. b + n < 1000) (no_activation_in a k z) (h.1 e)))
-acts_through a n k before after g (Done v) z p next source h = subst (λ m. Activated a m (g v)) (sym h) (next v (source v refl))
-acts_through a n k before after g (Uncaught r) z p next source h = subst (λ m. Activated a m (at_raised (Pending k before after) r)) (sym h) (of_here a (at_raised (Pending k before after) r) (here_raised a k before after r z p))
+acts_through : {R : Type 0} (a : ℕ) (os : List (Option R)) (k : Kind R) (before : List (Value R)) (after : Parts R) (g : Value R → Found R) (x : Found R) → IsNoActivation k → AreSource after → ((v : Value R) → IsSourceValue v → Listed a [] (g v)) → ((v : Value R) → x ≡ Done v → IsSourceValue v)
+    → Listed (activations_in a k) os x → Listed a os (through (Pending k before after) g x)
+acts_through a os k before after g (Next u) z p next source h = next_in a os u (Form k (values_before before (Part u after))) (in_hole k before u after z p) (subst (λ b. Listed b os (Next u)) (no_activation_in a k z) h)
+acts_through a os k before after g (Needs op fs) z p next source h =
+    (h.0 ∙ sym (no_object_in (objects_around fs (left_objects op)) k z), (λ e. subst (λ b. b + length os < 1000) (no_activation_in a k z) (h.1 e)))
+acts_through a os k before after g (Done v) z p next source h = subst (λ l. Listed a l (g v)) (sym h) (next v (source v refl))
+acts_through a os k before after g (Uncaught r) z p next source h = subst (λ l. Listed a l (at_raised (Pending k before after) r)) (sym h) (of_here a (at_raised (Pending k before after) r) (here_raised a k before after r z p))
 
 -- ---- activations
 
-pub with_none : {R : Type 0} (u : Term R) (after : Parts R) → AreSource after → activations_of u + activations_of_parts after ≡ activations_of u
-with_none u after h = ap (λ n. activations_of u + n) (sources_none after h) ∙ plus_zero (activations_of u)
-  where
-    plus_zero : (n : ℕ) → n + 0 ≡ n
-    plus_zero n = omega arith
-
 -- a step inside of an activation
-next_inside : {R : Type 0} (a n : ℕ) (u w : Term R) → activations_of w ≡ suc (activations_of u) → Activated (suc a) n (Next u) → Activated a (suc n) (Next w)
-next_inside a n u w e (inl h) = inl (e ∙ ap suc h)
-next_inside a n u w e (inr (inl h)) = inr (inl (e ∙ ap suc h.0, shifted a n h.1))
+next_inside : {R : Type 0} (a : ℕ) (os : List (Option R)) (u w : Term R) (y : Option R) → objects_of w ≡ objects_of u ++ y ∷ [] → Listed (suc a) os (Next u) → Listed a (os ++ y ∷ []) (Next w)
+next_inside a os u w y e (inl h) = inl (e ∙ ap (λ l. l ++ y ∷ []) h)
+next_inside a os u w y e (inr (inl h)) = inr (inl (e ∙ ap (λ l. l ++ y ∷ []) h.0, shifted a (length os) (length (os ++ y ∷ [])) (push_length os y) h.1))
   where
-    shifted : (a n : ℕ) → suc a + suc n ≤ 1000 → a + suc (suc n) ≤ 1000
-    shifted a n l = omega arith
-next_inside a n u w e (inr (inr h)) = inr (inr (ap suc (h ∙ sym e)))
+    shifted : (a m n : ℕ) → n ≡ suc m → suc a + suc m ≤ 1000 → a + suc n ≤ 1000
+    shifted a m n q l = omega arith
+next_inside a os u w y e (inr (inr (x, h))) = inr (inr (x, ap (λ l. l ++ y ∷ []) h ∙ ap (λ l. x ∷ l) (sym e)))
 
-needs_inside : {R : Type 0} (a n : ℕ) (op : Operation R) (fs gs : List (Frame R)) → activations_at a gs ≡ activations_at (suc a) fs → Activated (suc a) n (Needs op fs) → Activated a (suc n) (Needs op gs)
-needs_inside a n op fs gs e h = (suc_moves a n ∙ h.0 ∙ ap (λ m. m + left_by op) (sym e), (λ q. moved a n (h.1 q)))
+needs_inside : {R : Type 0} (a : ℕ) (os : List (Option R)) (op : Operation R) (fs gs : List (Frame R)) (y : Option R) → objects_around gs (left_objects op) ≡ objects_around fs (left_objects op) ++ y ∷ [] → Listed (suc a) os (Needs op fs) → Listed a (os ++ y ∷ []) (Needs op gs)
+needs_inside a os op fs gs y e h = (ap (λ l. l ++ y ∷ []) h.0 ∙ sym e, (λ q. moved a (length os) (length (os ++ y ∷ [])) (push_length os y) (h.1 q)))
   where
-    suc_moves : (a n : ℕ) → a + suc n ≡ suc a + n
-    suc_moves a n = omega arith
+    moved : (a m n : ℕ) → n ≡ suc m → suc a + m < 1000 → a + n < 1000
+    moved a m n q l = omega arith
 
-    moved : (a n : ℕ) → suc a + n < 1000 → a + suc n < 1000
-    moved a n l = omega arith
+acts_called : {R : Type 0} (a : ℕ) (os : List (Option R)) (after : Parts R) (g : Value R → Found R) (x : Found R) → AreSource after → ((v : Value R) → Listed a (None ∷ []) (g v)) → Listed (suc a) os x → Listed a (os ++ None ∷ []) (through (Pending Called [] after) g x)
+acts_called a os after g (Next u) p next h = next_inside a os u (Form Called (Part u after)) None (ap (λ l. l ++ None ∷ []) (with_bare u after p)) h
+acts_called a os after g (Needs op fs) p next h = needs_inside a os op fs (Pending Called [] after ∷ fs) None refl h
+acts_called a os after g (Done v) p next h = subst (λ l. Listed a (l ++ None ∷ []) (g v)) (sym h) (next v)
+acts_called a os after g (Uncaught r) p next h = inr (inr (None, ap (λ l. l ++ None ∷ []) h))
 
-acts_called : {R : Type 0} (a n : ℕ) (after : Parts R) (g : Value R → Found R) (x : Found R) → AreSource after → ((v : Value R) → Activated a 1 (g v)) → Activated (suc a) n x → Activated a (suc n) (through (Pending Called [] after) g x)
-acts_called a n after g (Next u) p next h = next_inside a n u (Form Called (Part u after)) (ap suc (with_none u after p)) h
-acts_called a n after g (Needs op fs) p next h = needs_inside a n op fs (Pending Called [] after ∷ fs) refl h
-acts_called a n after g (Done v) p next h = subst (λ m. Activated a (suc m) (g v)) (sym h) (next v)
-acts_called a n after g (Uncaught r) p next h = inr (inr (ap suc h))
+called_rest : {R : Type 0} (eq : R → R → Bool) (a : ℕ) (s : Self R) (v : Value R) (after : Parts R) → Listed a (None ∷ []) (find_part eq a s Called (v ∷ []) after)
+called_rest eq a s v End = inr (inr (None, refl))
+called_rest eq a s v (Part t after) = inr (inr (None, refl))
 
-called_rest : {R : Type 0} (eq : R → R → Bool) (a : ℕ) (s : Self R) (v : Value R) (after : Parts R) → Activated a 1 (find_part eq a s Called (v ∷ []) after)
-called_rest eq a s v End = inr (inr refl)
-called_rest eq a s v (Part t after) = inr (inr refl)
-
-leaves : {R : Type 0} (a : ℕ) (o : R) (m : Mode) (out : Term R) → activations_of out ≡ 0 → Activated a 1 (out_of_method o m out)
+leaves : {R : Type 0} (a : ℕ) (o : R) (m : Mode) (out : Term R) → objects_of out ≡ [] → Listed a (Some o ∷ []) (out_of_method o m out)
 leaves a o Held out e = (refl, never)
-leaves a o Plain out e = inr (inr (ap suc (sym e)))
-leaves a o Inner out e = inr (inr (ap suc (sym e)))
+leaves a o Plain out e = inr (inr (Some o, ap (λ l. Some o ∷ l) (sym e)))
+leaves a o Inner out e = inr (inr (Some o, ap (λ l. Some o ∷ l) (sym e)))
 
-acts_within : {R : Type 0} (eq : R → R → Bool) (a n : ℕ) (s : Self R) (o : R) (m : Mode) (x : Found R) → Activated (suc a) n x → Activated a (suc n) (through (Pending (Within o m) [] End) (λ v. find_part eq a s (Within o m) (v ∷ []) End) x)
-acts_within eq a n s o m (Next u) h = next_inside a n u (Form (Within o m) (Part u End)) (ap suc (with_none u End tt)) h
-acts_within eq a n s o m (Needs op fs) h = needs_inside a n op fs (Pending (Within o m) [] End ∷ fs) refl h
-acts_within eq a n s o m (Done v) h = subst (λ k. Activated a (suc k) (out_of_method o m (Const v))) (sym h) (leaves a o m (Const v) refl)
-acts_within eq a n s o m (Uncaught r) h = subst (λ k. Activated a (suc k) (out_of_method o m (raising r))) (sym h) (leaves a o m (raising r) refl)
+acts_within : {R : Type 0} (eq : R → R → Bool) (a : ℕ) (os : List (Option R)) (s : Self R) (o : R) (m : Mode) (x : Found R) → Listed (suc a) os x → Listed a (os ++ Some o ∷ []) (through (Pending (Within o m) [] End) (λ v. find_part eq a s (Within o m) (v ∷ []) End) x)
+acts_within eq a os s o m (Next u) h = next_inside a os u (Form (Within o m) (Part u End)) (Some o) (ap (λ l. l ++ Some o ∷ []) (with_bare u End tt)) h
+acts_within eq a os s o m (Needs op fs) h = needs_inside a os op fs (Pending (Within o m) [] End ∷ fs) (Some o) refl h
+acts_within eq a os s o m (Done v) h = subst (λ l. Listed a (l ++ Some o ∷ []) (out_of_method o m (Const v))) (sym h) (leaves a o m (Const v) refl)
+acts_within eq a os s o m (Uncaught r) h = subst (λ l. Listed a (l ++ Some o ∷ []) (out_of_method o m (raising r))) (sym h) (leaves a o m (raising r) refl)
 
 -- ---- the walk
 
-by_operand : {R : Type 0} (a n : ℕ) (c : Bool) (A B : Type 0) (x y : Found R) → elim c as (λ z. Type 0) [ true ↦ A | false ↦ B ] → (A → Activated a n x) → (B → Activated a n y) → Activated a n (elim c as (λ z. Found R) [ true ↦ x | false ↦ y ])
-by_operand a n true A B x y h f g = f h
-by_operand a n false A B x y h f g = g h
-
-longer : {R : Type 0} (vs : List (Value R)) (v : Value R) → length (vs ++ v ∷ []) ≡ suc (length vs)
-longer vs v = omega (arith, length-append vs (v ∷ []))
-
-zero_plus : (n : ℕ) → 0 + n ≡ n
-zero_plus n = omega arith
+by_operand : {R : Type 0} (a : ℕ) (os : List (Option R)) (c : Bool) (A B : Type 0) (x y : Found R) → elim c as (λ z. Type 0) [ true ↦ A | false ↦ B ] → (A → Listed a os x) → (B → Listed a os y) → Listed a os (elim c as (λ z. Found R) [ true ↦ x | false ↦ y ])
+by_operand a os true A B x y h f g = f h
+by_operand a os false A B x y h f g = g h
 
 done_source : {R : Type 0} (eq : R → R → Bool) (a : ℕ) (s : Self R) (t : Term R) (v : Value R) → IsFormed s t → find eq a s t ≡ Done v → IsSourceValue v
 done_source eq a s t v h e = subst (IsFormed s) (done_value eq a s t v e) h
@@ -397,51 +383,103 @@ the_part s o m (Form q ps) g = g.0
 
 -- the row of a part that stops the walk
 last_row : {R : Type 0} (eq : R → R → Bool) (a : ℕ) (s : Self R) (k : Kind R) (before : List (Value R)) (t : Term R) (after : Parts R) → IsNoActivation k → AllSource before → IsSource t → AreSource after
-    → Activated a (activations_of t + activations_of_parts after) (row eq a s k before (Part t after))
+    → Listed a (objects_of t ++ objects_of_parts after) (row eq a s k before (Part t after))
 last_row eq a s k before t after z w h p =
-    subst (λ n. Activated a n (row eq a s k before (Part t after))) (sym (sources_none (Part t after) (h, p))) (of_here a (row eq a s k before (Part t after)) (here_row eq a s k before (Part t after) z w (h, p)))
+    subst (λ l. Listed a l (row eq a s k before (Part t after))) (sym (sources_bare (Part t after) (h, p))) (of_here a (row eq a s k before (Part t after)) (here_row eq a s k before (Part t after) z w (h, p)))
 
 -- a part that is walked into
 first_part : {R : Type 0} (eq : R → R → Bool) (a : ℕ) (s : Self R) (k : Kind R) (before : List (Value R)) (t : Term R) (after : Parts R) → IsNoActivation k → AllSource before → IsFormed (self_in s k) t → AreSource after
-    → Activated (activations_in a k) (activations_of t) (find eq (activations_in a k) (self_in s k) t) → ((v : Value R) → IsSourceValue v → Activated a 0 (find_part eq a s k (before ++ v ∷ []) after))
-    → Activated a (activations_of t + activations_of_parts after) (through (Pending k before after) (λ v. find_part eq a s k (before ++ v ∷ []) after) (find eq (activations_in a k) (self_in s k) t))
+    → Listed (activations_in a k) (objects_of t) (find eq (activations_in a k) (self_in s k) t) → ((v : Value R) → IsSourceValue v → Listed a [] (find_part eq a s k (before ++ v ∷ []) after))
+    → Listed a (objects_of t ++ objects_of_parts after) (through (Pending k before after) (λ v. find_part eq a s k (before ++ v ∷ []) after) (find eq (activations_in a k) (self_in s k) t))
 first_part eq a s k before t after z w f p h next =
-    subst (λ n. Activated a n (through (Pending k before after) (λ v. find_part eq a s k (before ++ v ∷ []) after) (find eq (activations_in a k) (self_in s k) t))) (sym (with_none t after p))
-    (acts_through a (activations_of t) k before after (λ v. find_part eq a s k (before ++ v ∷ []) after) (find eq (activations_in a k) (self_in s k) t) z p next (λ v e. done_source eq (activations_in a k) (self_in s k) t v f e) h)
+    subst (λ l. Listed a l (through (Pending k before after) (λ v. find_part eq a s k (before ++ v ∷ []) after) (find eq (activations_in a k) (self_in s k) t))) (sym (with_bare t after p))
+    (acts_through a (objects_of t) k before after (λ v. find_part eq a s k (before ++ v ∷ []) after) (find eq (activations_in a k) (self_in s k) t) z p next (λ v e. done_source eq (activations_in a k) (self_in s k) t v f e) h)
 
 mutual
-  pub found_activations : {R : Type 0} → FoundActivations R
-  found_activations eq a s (Const v) h = refl
-  found_activations eq a s (Name x) h = inl refl
-  found_activations eq a s (Under names t) h = inl refl
-  found_activations eq a s (Form Called End) h = inr (inr refl)
-  found_activations eq a s (Form Called (Part (Const v) End)) h = inr (inr refl)
-  found_activations eq a s (Form Called (Part (Const v) (Part (Const w) after))) h = inr (inr (ap suc (ap (λ n. 0 + n) (sources_none (Part (Const w) after) h.1.1))))
-  found_activations eq a s (Form Called (Part (Const v) (Part t after))) h = inr (inr (ap suc (ap (λ n. 0 + n) (sources_none (Part t after) h.1.1))))
-  found_activations eq a s (Form Called (Part t after)) h =
-      subst (λ n. Activated a (suc n) (find_part eq a s Called [] (Part t after))) (sym (with_none t after h.1.1))
-      (acts_called a (activations_of t) after (λ v. find_part eq a s Called (v ∷ []) after) (find eq (suc a) s t) h.1.1 (λ v. called_rest eq a s v after) (found_activations eq (suc a) s t h.1.0))
-  found_activations eq a s (Form (Within o m) (Part t End)) h =
-      subst (λ n. Activated a (suc n) (find eq a s (Form (Within o m) (Part t End)))) (sym (with_none t End tt))
-      (acts_within eq a (activations_of t) s o m (find eq (suc a) (self_within o m) t) (found_activations eq (suc a) (self_within o m) t (the_part (self_within o m) o m t h.1)))
-  found_activations eq a s (Form (Within o m) End) h = absurd h.0
-  found_activations eq a s (Form (Within o m) (Part t (Part u ts))) h = absurd h.0
-  found_activations eq a s (Form k parts) h =
-      subst (λ n. Activated a n (find_part eq a s k [] parts)) (sym (no_activation_in (activations_of_parts parts) k tt)) (acts_parts eq a s k [] parts tt tt h.1)
+  pub found_objects : {R : Type 0} → FoundObjects R
+  found_objects eq a s (Const v) h = refl
+  found_objects eq a s (Name x) h = inl refl
+  found_objects eq a s (Under names t) h = inl refl
+  found_objects eq a s (Form Called End) h = inr (inr (None, refl))
+  found_objects eq a s (Form Called (Part (Const v) End)) h = inr (inr (None, refl))
+  found_objects eq a s (Form Called (Part (Const v) (Part (Const w) after))) h = inr (inr (None, ap (λ l. l ++ None ∷ []) (sources_bare (Part (Const w) after) h.1.1)))
+  found_objects eq a s (Form Called (Part (Const v) (Part t after))) h = inr (inr (None, ap (λ l. l ++ None ∷ []) (sources_bare (Part t after) h.1.1)))
+  found_objects eq a s (Form Called (Part t after)) h =
+      subst (λ l. Listed a (l ++ None ∷ []) (find_part eq a s Called [] (Part t after))) (sym (with_bare t after h.1.1))
+      (acts_called a (objects_of t) after (λ v. find_part eq a s Called (v ∷ []) after) (find eq (suc a) s t) h.1.1 (λ v. called_rest eq a s v after) (found_objects eq (suc a) s t h.1.0))
+  found_objects eq a s (Form (Within o m) (Part t End)) h =
+      subst (λ l. Listed a (l ++ Some o ∷ []) (find eq a s (Form (Within o m) (Part t End)))) (sym (with_bare t End tt))
+      (acts_within eq a (objects_of t) s o m (find eq (suc a) (self_within o m) t) (found_objects eq (suc a) (self_within o m) t (the_part (self_within o m) o m t h.1)))
+  found_objects eq a s (Form (Within o m) End) h = absurd h.0
+  found_objects eq a s (Form (Within o m) (Part t (Part u ts))) h = absurd h.0
+  found_objects eq a s (Form k parts) h =
+      subst (λ l. Listed a l (find_part eq a s k [] parts)) (sym (no_object_in (objects_of_parts parts) k tt)) (acts_parts eq a s k [] parts tt tt h.1)
 
   pub acts_parts : {R : Type 0} (eq : R → R → Bool) (a : ℕ) (s : Self R) (k : Kind R) (before : List (Value R)) (parts : Parts R) → IsNoActivation k → AllSource before → AreFormed (self_in s k) k (length before) parts
-      → Activated a (activations_of_parts parts) (find_part eq a s k before parts)
+      → Listed a (objects_of_parts parts) (find_part eq a s k before parts)
   acts_parts eq a s k before End z w f = of_here a (row eq a s k before End) (here_row eq a s k before End z w tt)
   acts_parts {R} eq a s k before (Part (Const v) after) z w f =
-      by_operand a (0 + activations_of_parts after) (is_operand k (length before)) (IsSourceValue v × AreFormed (self_in s k) k (suc (length before)) after) (IsSourceValue v × AreSource after)
+      by_operand a (objects_of_parts after) (is_operand k (length before)) (IsSourceValue v × AreFormed (self_in s k) k (suc (length before)) after) (IsSourceValue v × AreSource after)
       (find_part eq a s k (before ++ v ∷ []) after) (row eq a s k before (Part (Const v) after)) f
-      (λ h. subst (λ n. Activated a n (find_part eq a s k (before ++ v ∷ []) after)) (sym (zero_plus (activations_of_parts after)))
-      (acts_parts eq a s k (before ++ v ∷ []) after z (source_snoc before v w h.0) (subst (λ n. AreFormed (self_in s k) k n after) (sym (longer before v)) h.1)))
+      (λ h. acts_parts eq a s k (before ++ v ∷ []) after z (source_snoc before v w h.0) (subst (λ n. AreFormed (self_in s k) k n after) (sym (push_length before v)) h.1))
       (λ h. last_row eq a s k before (Const v) after z w h.0 h.1)
   acts_parts {R} eq a s k before (Part t after) z w f =
-      by_operand a (activations_of t + activations_of_parts after) (is_operand k (length before)) (IsFormed (self_in s k) t × AreSource after) (IsSource t × AreSource after)
+      by_operand a (objects_of t ++ objects_of_parts after) (is_operand k (length before)) (IsFormed (self_in s k) t × AreSource after) (IsSource t × AreSource after)
       (through (Pending k before after) (λ v. find_part eq a s k (before ++ v ∷ []) after) (find eq (activations_in a k) (self_in s k) t)) (row eq a s k before (Part t after)) f
-      (λ h. first_part eq a s k before t after z w h.0 h.1 (found_activations eq (activations_in a k) (self_in s k) t h.0)
-      (λ v q. subst (λ n. Activated a n (find_part eq a s k (before ++ v ∷ []) after)) (sources_none after h.1)
+      (λ h. first_part eq a s k before t after z w h.0 h.1 (found_objects eq (activations_in a k) (self_in s k) t h.0)
+      (λ v q. subst (λ l. Listed a l (find_part eq a s k (before ++ v ∷ []) after)) (sources_bare after h.1)
       (acts_parts eq a s k (before ++ v ∷ []) after z (source_snoc before v w q) (all_source-formed (self_in s k) k (length (before ++ v ∷ [])) after h.1))))
       (λ h. last_row eq a s k before t after z w h.0 h.1)
+
+-- ---- how many they are
+
+abbrev with_form : {R : Type 0} → Kind R → ℕ → ℕ
+with_form k n = activations_in n k
+
+form_long : {R : Type 0} (os : List (Option R)) (k : Kind R) → length (objects_in os k) ≡ activations_in (length os) k
+form_long os (Within o m) = push_length os (Some o)
+form_long os Called = push_length os None
+form_long os k = refl
+
+mutual
+  -- as many as a term has activations
+  pub objects_long : {R : Type 0} (t : Term R) → length (objects_of t) ≡ activations_of t
+  objects_long (Const v) = refl
+  objects_long (Name x) = refl
+  objects_long (Under names t) = refl
+  objects_long (Form k parts) = form_long (objects_of_parts parts) k ∙ ap (with_form k) (parts_long parts)
+
+  parts_long : {R : Type 0} (parts : Parts R) → length (objects_of_parts parts) ≡ activations_of_parts parts
+  parts_long End = refl
+  parts_long (Part t parts) = length-append (objects_of t) (objects_of_parts parts) ∙ ap (λ n. n + length (objects_of_parts parts)) (objects_long t) ∙ ap (λ n. activations_of t + n) (parts_long parts)
+
+pub source_none : {R : Type 0} (t : Term R) → IsSource t → activations_of t ≡ 0
+source_none t h = sym (objects_long t) ∙ ap length (source_bare t h)
+
+around_long : {R : Type 0} (a : ℕ) (fs : List (Frame R)) (os : List (Option R)) → activations_at a fs + length os ≡ a + length (objects_around fs os)
+around_long {R} a [] os = refl
+around_long {R} a (Pending k before after ∷ fs) os = around_long (activations_in a k) fs os ∙ one_in k a (objects_around fs os)
+  where
+    pushed : (a m n : ℕ) → n ≡ suc m → suc a + m ≡ a + n
+    pushed a m n q = omega arith
+
+    one_in : (k : Kind R) (a : ℕ) (l : List (Option R)) → activations_in a k + length l ≡ a + length (objects_in l k)
+    one_in (Within o m) a l = pushed a (length l) (length (l ++ Some o ∷ [])) (push_length l (Some o))
+    one_in Called a l = pushed a (length l) (length (l ++ None ∷ [])) (push_length l None)
+    one_in k a l = refl
+
+left_long : {R : Type 0} (op : Operation R) → length (left_objects op) ≡ left_by op
+left_long (Leave o out) = refl
+left_long op = refl
+
+-- the same of numbers
+counted : {R : Type 0} (a : ℕ) (os : List (Option R)) (x : Found R) → Listed a os x → Activated a (length os) x
+counted a os (Next u) (inl h) = inl (sym (objects_long u) ∙ ap length h)
+counted a os (Next u) (inr (inl h)) = inr (inl (sym (objects_long u) ∙ ap length h.0, h.1))
+counted a os (Next u) (inr (inr (x, h))) = inr (inr (ap length h ∙ ap suc (objects_long u)))
+counted a os (Needs op fs) h = (ap (λ l. a + length l) h.0 ∙ sym (around_long a fs (left_objects op)) ∙ ap (λ n. activations_at a fs + n) (left_long op), h.1)
+counted a os (Done v) h = ap length h
+counted a os (Uncaught r) h = ap length h
+
+pub found_activations : {R : Type 0} → FoundActivations R
+found_activations eq a s t h = subst (λ n. Activated a n (find eq a s t)) (objects_long t) (counted a (objects_of t) (find eq a s t) (found_objects eq a s t h))

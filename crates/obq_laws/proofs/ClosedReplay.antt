@@ -1,6 +1,6 @@
 -- Every configuration that a journal of a program without an unbound name replays to is closed.
 use Rattle.std.specs.Prelude.{Bool, List, None, Option, Some, [], false, length, max, not, refl, replicate, slice_get, slice_set, suc, true, zero, ℕ, ◌&&◌, ◌++◌, ◌∷◌, ◌≡◌}
-use Rattle.std.proofs.Common.{subst, ap, sym, ◌∙◌, arith}
+use Rattle.std.proofs.Common.{subst, ap, sym, ◌∙◌, arith, true≢false}
 use Rattle.std.proofs.lemmas.Slice.Eq.{bytes_eq-Decides}
 use Rattle.obq_base.specs.declared.acts.Act.{Act}
 use Rattle.obq_base.specs.Tree.{BlockTree}
@@ -15,7 +15,7 @@ use Rattle.obq_model.specs.Forms.{IsSourceKind, IsSource, AreSource}
 use Rattle.obq_model.specs.Config.{Running, Returned, ThreadState, Config}
 use Rattle.obq_model.specs.Effect.{Acting, Forking, end_by}
 use Rattle.obq_model.specs.Opening.{block_term, opening_terms, new_threads, opening}
-use Rattle.obq_model.proofs.Among.{true_false, left_of, right_of}
+use Rattle.obq_model.proofs.Among.{left_of, right_of}
 use Rattle.obq_model.proofs.Closed.{closed, flat}
 use Rattle.obq_laws.specs.Closing.{Bound, no_name, within, IsClosed, AreClosed, IsClosedValue, IsClosedKind, AreClosedCells, IsClosedExecution, AreClosedThreads, IsClosedConfig, NoneUnbound, ClosedReplay, NoNameNext}
 use Rattle.obq_laws.specs.Shaping.{IsShapedConfig, IsShapedIf}
@@ -134,7 +134,7 @@ mutual
 opening_threads : (site : ℕ) (bs : List BlockTree) → NoneUnbound bs → AreClosedThreads (new_threads (opening_terms site bs))
 opening_threads site [] n = tt
 opening_threads site (b ∷ bs) n =
-    (bound_term no_name (block_term site [] b) (opening_shaped site [] b).1 (flat site b n.0) (λ x h. absurd (true_false (sym h ∙ closed site b n.0 x))), opening_threads (suc site) bs n.1)
+    (bound_term no_name (block_term site [] b) (opening_shaped site [] b).1 (flat site b n.0) (λ x h. absurd (true≢false (sym h ∙ closed site b n.0 x))), opening_threads (suc site) bs n.1)
 
 opening_writers : (n : ℕ) → AreClosedCells (replicate n (WriterCell []))
 opening_writers zero = tt
@@ -150,4 +150,4 @@ pub no_name_next : NoNameNext
 no_name_next trees turns es k t s fs x n r here e =
     let state : IsClosedExecution s.execution = subst IsClosedState here (closed_thread k.threads t (closed_replay trees turns es k n r).1) in
     let u : IsClosedExecution (Running (plug fs (Name x))) = subst IsClosedExecution e state in
-    absurd (true_false (sym (in_hole fs (Name x) u)))
+    absurd (true≢false (sym (in_hole fs (Name x) u)))

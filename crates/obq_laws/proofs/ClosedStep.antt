@@ -1,6 +1,6 @@
 -- What stands next in a closed term is closed.
 use Rattle.std.specs.Prelude.{Bool, List, None, Option, Some, [], bytes_eq, drop, false, if◌then◌else◌, int_div, int_lt, int_rem, length, nat_lt, negsuc, not, pos, refl, replicate, suc, take, true, zero, ℕ, ℤ, ◌&&◌, ◌*ℤ◌, ◌++◌, ◌+ℤ◌, ◌+◌, ◌-ℤ◌, ◌==◌, ◌∷◌, ◌≡◌, ◌||◌, ◌⊎◌}
-use Rattle.std.proofs.Common.{inl, inr, subst, ap, sym, ◌∙◌, arith}
+use Rattle.std.proofs.Common.{inl, inr, subst, ap, sym, ◌∙◌, arith, true≢false}
 use Rattle.std.proofs.lemmas.Bool.{eqb-true}
 use Rattle.std.proofs.lemmas.Slice.Eq.{bytes_eq-Decides}
 use Rattle.obq_base.specs.declared.limits.TheConstants.{ARRAY_LIMIT, CLOSURE_LIMIT, TEXT_LIMIT}
@@ -14,7 +14,7 @@ use Rattle.obq_model.specs.Exceptions.{raising, arity, int_overflow, text_limit,
 use Rattle.obq_model.specs.Builtins.{is_i64, number, divided, same, compared, operate, part, arity_of_builtin}
 use Rattle.obq_model.specs.Store.{ObjectCell, ArrayCell, field_names, twice}
 use Rattle.obq_model.specs.Step.{Self, After, Itself, Entered, Operation, New, Leave, Copy, EachSize, SetItem, SetVariable, ForkOff, LineUp, GiveUp, Again, Export, CallMethod, Set, EachItem, RunEngine, is_operand, Frame, Pending, values_before, plug, self_in, activations_in, Found, Next, Needs, Done, Uncaught, part_at, names_of, params_of, body_with, is_call_limit, call_closure, with_one_parameter, call_engine, is_callable, call_value, field_before, fields_of, layout_names, new_object, objects, clone, array_of_size, fork_of, apply, counting, choose, out_of_method, chosen, tested, watching, cloned, row, out_of_loop, out_of_try, at_raised, through, find, find_part}
-use Rattle.obq_model.proofs.Among.{true_false, bytes_sym, either, left_of, right_of}
+use Rattle.obq_model.proofs.Among.{bytes_sym, either, left_of, right_of}
 use Rattle.obq_laws.specs.Closing.{Bound, no_name, within, IsClosed, AreClosed, IsClosedValue, IsClosedKind, AreClosedFields, IsClosedField, AllClosed, IsClosedCell}
 use Rattle.obq_laws.specs.Known.{HasOneParameter}
 use Rattle.obq_laws.proofs.ShapedStep.{ShapedFound, not_zero, shaped_find, replaceable, operand_unbound, values_snoc}
@@ -81,7 +81,7 @@ none_among : (f g : Bound) → Covers f [] g → (y : Bytes) → f y ≡ true �
 none_among f g c y h = by (c y h)
   where
     by : (among y [] ≡ true) ⊎ (g y ≡ true) → g y ≡ true
-    by (inl e) = absurd (true_false (sym e))
+    by (inl e) = absurd (true≢false (sym e))
     by (inr e) = e
 
 covers_within : (names xs : List Bytes) (f g : Bound) → Covers f xs g → Covers (within names f) xs (within names g)
@@ -141,7 +141,7 @@ mutual
     where
       by : (b : Bool) → bytes_eq x y ≡ b → (among y (x ∷ []) ≡ true) ⊎ (g y ≡ true) → IsClosed g (if b then occurrence v else Name y)
       by true e o = closed_occurrence g v k
-      by false e (inl o) = absurd (true_false (sym (bytes_sym x y ∙ only_first (bytes_eq y x) o) ∙ e))
+      by false e (inl o) = absurd (true≢false (sym (bytes_sym x y ∙ only_first (bytes_eq y x) o) ∙ e))
       by false e (inr o) = o
   closed_put f g v x k c (Under names t) h = by (among x names) refl (closed_put (within names f) (within names g) v x k (covers_within names (x ∷ []) f g c) t h)
     where

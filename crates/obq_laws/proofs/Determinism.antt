@@ -10,8 +10,8 @@ use Rattle.obq_model.specs.Step.{no_self, Found, Next, Needs, Done, Uncaught, fi
 use Rattle.obq_model.specs.Config.{Execution, Running, Returned, Failed, ThreadState, Config, with_execution}
 use Rattle.obq_model.specs.Effect.{Effect, Does, Waits, Nothing, effect_of, effect_of_execution, effect_of_state, effect}
 use Rattle.obq_model.specs.Replay.{after_pure, act_same, spend, with_turns, exactly, then_act, act_turns, take_of, take_execution, take_state, take_entry}
+use Rattle.obq_model.proofs.Options.{none_some}
 use Rattle.obq_laws.specs.Determinism.{entry_of, StepOrAct, OneAct, CutEntry}
-use Rattle.obq_laws.proofs.HeldActs.{none_some}
 use Rattle.obq_laws.proofs.Exclusion.{act_same_eq, get_set, effect_after}
 
 -- ---- a thread in a list

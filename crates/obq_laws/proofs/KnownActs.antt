@@ -13,7 +13,8 @@ use Rattle.obq_model.specs.Config.{Execution, Running, Returned, Failed, ThreadS
 use Rattle.obq_model.specs.Cells.{is_clear, is_refused, mode_for, owner_for, set_at_target, is_alias, items_of, item_at, value_of, is_free, after_new}
 use Rattle.obq_model.specs.Effect.{Outcome, Waiting, Acting, Forking, get, invoke, set_here, set_field, on_object, at_object, item, set_item, set_variable, write, with_line, owned_by, line_of, in_line, imported, joined, perform}
 use Rattle.obq_model.proofs.Slices.{set_length}
-use Rattle.obq_laws.specs.Known.{Places, Threads, IsKnown, AreKnown, IsKnownValue, AreKnownFields, IsKnownBody, AllKnown, IsKnownCell, location_kind, IsKnownAfter, IsKnownOperation, AreKnownCells, AreKnownNames, IsKnownStore, IsKnownExecution, AreKnownThreads}
+use Rattle.obq_laws.proofs.Raises.{raises_type, raises_arity, raises_array_index, raises_field_missing, raises_fork_limit, raises_not_method, raises_not_value, raises_protected}
+use Rattle.obq_laws.specs.Known.{IsText, Places, Threads, IsKnown, AreKnown, IsKnownValue, AreKnownFields, IsKnownBody, AllKnown, IsKnownCell, location_kind, IsKnownAfter, IsKnownOperation, AreKnownCells, AreKnownNames, IsKnownStore, IsKnownExecution, AreKnownThreads}
 use Rattle.obq_laws.proofs.KnownStep.{known_put_all, known_enter, known_body}
 use Rattle.obq_laws.proofs.Numbers.{length_int}
 
@@ -100,22 +101,22 @@ known_aliased L T p (Field x body fs) h = (h, known_aliased L T p fs h)
 -- ---- operations on an object
 
 known_get_row : (L : Places ℕ) (T : Threads) (st : Store ℕ) (o : ℕ) (b : Option (FieldBody ℕ)) → IsKnownStore L T st → IsKnownBodyIf L T b → KnownOutcome L T (get st o b)
-known_get_row L T st o None s h = (s, (tt, tt))
+known_get_row L T st o None s h = (s, raises_field_missing L T)
 known_get_row L T st o (Some (IsValue v)) s h = (s, h)
-known_get_row L T st o (Some (IsMethod params body)) s h = (s, (tt, tt))
+known_get_row L T st o (Some (IsMethod params body)) s h = (s, raises_not_value L T)
 known_get_row L T st o (Some (IsAlias p y)) s h = (s, (tt, (h, tt)))
 
 known_invoke : (L : Places ℕ) (T : Threads) (st : Store ℕ) (t : ℕ) (s : Self ℕ) (o : ℕ) (flags : Flags) (owner : Option ℕ) (fields : Fields ℕ) (vs : List (Value ℕ)) (b : Option (FieldBody ℕ)) → IsKnownStore L T st → L Object o → AreKnownFields L T fields → AllKnown L T vs → IsKnownBodyIf L T b
     → KnownOutcome L T (invoke st t s o flags owner fields vs b)
-known_invoke L T st t s o flags owner fields vs None i l f k h = (i, (tt, tt))
-known_invoke L T st t s o flags owner fields vs (Some (IsValue v)) i l f k h = (i, (tt, tt))
+known_invoke L T st t s o flags owner fields vs None i l f k h = (i, raises_field_missing L T)
+known_invoke L T st t s o flags owner fields vs (Some (IsValue v)) i l f k h = (i, raises_not_method L T)
 known_invoke L T st t s o flags owner fields vs (Some (IsAlias p y)) i l f k h = (i, (tt, (h, known_values L T vs k)))
 known_invoke L T st t s o flags owner fields vs (Some (IsMethod params body)) i l f k h =
     outcome_if L T (length params == suc (length vs))
     (Acting ActKind.Call o (with_cell st o (ObjectCell flags (owner_for same_loc s o flags t owner) fields)) (Form (Within o (mode_for same_loc s o flags)) (Part (put_all (Loc Object o ∷ vs) params body) End)))
     (Acting ActKind.Call o st arity)
     (with_cell_known L T st o (ObjectCell flags (owner_for same_loc s o flags t owner) fields) i f, (l, (known_put_all L T (Loc Object o ∷ vs) params body (l, k) h.1, tt)))
-    (i, (tt, tt))
+    (i, raises_arity L T)
 
 known_set_target : (L : Places ℕ) (T : Threads) (p : ℕ) (y : Bytes) (body : FieldBody ℕ) → L Object p → IsKnownBody L T body → IsKnown L T (set_at_target p y body)
 known_set_target L T p y (IsValue v) l h = (tt, (l, (h, tt)))
@@ -125,11 +126,11 @@ known_set_target L T p y (IsAlias q z) l h = (tt, (l, (h, tt)))
 known_set_here : (L : Places ℕ) (T : Threads) (st : Store ℕ) (s : Self ℕ) (o : ℕ) (flags : Flags) (owner : Option ℕ) (fields : Fields ℕ) (x : Bytes) (body : FieldBody ℕ) → IsKnownStore L T st → AreKnownFields L T fields → IsKnownBody L T body → KnownOutcome L T (set_here st s o flags owner fields x body)
 known_set_here L T st s o flags owner fields x body i f h =
     outcome_if L T (is_refused same_loc s o flags) (Acting ActKind.Set o st is_protected) (Acting ActKind.Set o (with_cell st o (ObjectCell flags owner (with_field x body fields))) (Const Okay))
-    (i, (tt, tt)) (with_cell_known L T st o (ObjectCell flags owner (with_field x body fields)) i (known_with_field L T x body fields h f), tt)
+    (i, raises_protected L T) (with_cell_known L T st o (ObjectCell flags owner (with_field x body fields)) i (known_with_field L T x body fields h f), tt)
 
 known_set_row : (L : Places ℕ) (T : Threads) (st : Store ℕ) (s : Self ℕ) (o : ℕ) (flags : Flags) (owner : Option ℕ) (fields : Fields ℕ) (x : Bytes) (body : FieldBody ℕ) (b : Option (FieldBody ℕ)) → IsKnownStore L T st → AreKnownFields L T fields → IsKnownBody L T body → IsKnownBodyIf L T b
     → KnownOutcome L T (set_field st s o flags owner fields x body b)
-known_set_row L T st s o flags owner fields x body None i f h k = (i, (tt, tt))
+known_set_row L T st s o flags owner fields x body None i f h k = (i, raises_field_missing L T)
 known_set_row L T st s o flags owner fields x body (Some (IsAlias p y)) i f h k =
     outcome_if L T (is_alias body) (set_here st s o flags owner fields x body) (Acting ActKind.Hop o st (set_at_target p y body)) (known_set_here L T st s o flags owner fields x body i f h) (i, known_set_target L T p y body k h)
 known_set_row L T st s o flags owner fields x body (Some (IsValue v)) i f h k = known_set_here L T st s o flags owner fields x body i f h
@@ -141,10 +142,10 @@ known_on_object L T st t s o (CallMethod p x vs) flags owner fields i l f h = kn
 known_on_object L T st t s o (Set p x body) flags owner fields i l f h = known_set_row L T st s o flags owner fields x body (field x fields) i f h.1 (known_field L T x fields f)
 known_on_object L T st t s o (Copy p first copied rest) flags owner fields i l f h =
     outcome_if L T (is_refused same_loc s o flags) (Acting ActKind.Copy o st is_protected) (Acting ActKind.Copy o st (Form (Cloning (Some (unwrap_or first flags)) (append_fields copied fields) rest) End))
-    (i, (tt, tt)) (i, ((known_append L T copied fields h.1 f, h.2), tt))
+    (i, raises_protected L T) (i, ((known_append L T copied fields h.1 f, h.2), tt))
 known_on_object L T st t s o (RedirectTo p target) flags owner fields i l f h =
     outcome_if L T (is_refused same_loc s o flags) (Acting ActKind.Redirect o st is_protected) (Acting ActKind.Redirect o (with_cell st o (ObjectCell flags owner (aliased target fields))) (Const Okay))
-    (i, (tt, tt)) (with_cell_known L T st o (ObjectCell flags owner (aliased target fields)) i (known_aliased L T target fields h.1), tt)
+    (i, raises_protected L T) (with_cell_known L T st o (ObjectCell flags owner (aliased target fields)) i (known_aliased L T target fields h.1), tt)
 known_on_object L T st t s o _ flags owner fields i l f h = tt
 
 known_at_object : (L : Places ℕ) (T : Threads) (st : Store ℕ) (t : ℕ) (s : Self ℕ) (o : ℕ) (op : Operation ℕ) (c : Option (Cell ℕ)) → IsKnownStore L T st → L Object o → IsKnownSome L T c → IsKnownOperation L T op → KnownOutcome L T (at_object st t s o op c)
@@ -180,7 +181,7 @@ item_at_known L T vs (pos i) h = item_known L T vs i h
 item_at_known L T vs (negsuc i) h = tt
 
 known_item : (L : Places ℕ) (T : Threads) (st : Store ℕ) (a : ℕ) (f : Value ℕ → Term ℕ) (v : Option (Value ℕ)) → IsKnownStore L T st → ((w : Value ℕ) → IsKnownValue L T w → IsKnown L T (f w)) → IsKnownIf L T v → KnownOutcome L T (item st a f v)
-known_item L T st a f None s h i = (s, (tt, tt))
+known_item L T st a f None s h i = (s, raises_array_index L T)
 known_item L T st a f (Some v) s h i = (s, h v i)
 
 known_replace : (L : Places ℕ) (T : Threads) (vs : List (Value ℕ)) (k : ℕ) (v : Value ℕ) → AllKnown L T vs → IsKnownValue L T v → AllKnown L T (slice_set vs k v)
@@ -191,8 +192,8 @@ known_replace L T (w ∷ vs) (suc k) v h i = (h.0, known_replace L T vs k v h.1 
 known_set_item : (L : Places ℕ) (T : Threads) (st : Store ℕ) (a : ℕ) (i : ℤ) (v : Value ℕ) (c : Option (Cell ℕ)) → IsKnownStore L T st → IsKnownSome L T c → IsKnownValue L T v → KnownOutcome L T (set_item st a i v c)
 known_set_item L T st a (pos i) v (Some (ArrayCell vs)) s h k =
     outcome_if L T (nat_lt i (length vs)) (Acting ActKind.ArraySet a (with_cell st a (ArrayCell (slice_set vs i v))) (Const Okay)) (Acting ActKind.ArraySet a st array_index)
-    (with_cell_known L T st a (ArrayCell (slice_set vs i v)) s (subst (λ n. n ≤ 65536) (sym (set_length vs i v)) h.0, known_replace L T vs i v h.1 k), tt) (s, (tt, tt))
-known_set_item L T st a (negsuc i) v (Some (ArrayCell vs)) s h k = (s, (tt, tt))
+    (with_cell_known L T st a (ArrayCell (slice_set vs i v)) s (subst (λ n. n ≤ 65536) (sym (set_length vs i v)) h.0, known_replace L T vs i v h.1 k), tt) (s, raises_array_index L T)
+known_set_item L T st a (negsuc i) v (Some (ArrayCell vs)) s h k = (s, raises_array_index L T)
 known_set_item L T st a i v _ s h k = tt
 
 known_set_variable : (L : Places ℕ) (T : Threads) (st : Store ℕ) (l : ℕ) (v : Value ℕ) (c : Option (Cell ℕ)) → IsKnownStore L T st → IsKnownValue L T v → KnownOutcome L T (set_variable st l v c)
@@ -227,10 +228,10 @@ known_exported L T x [] h = tt
 known_exported L T x (e ∷ es) h = by (bytes_eq x e.0) (known_exported L T x es h.1)
   where
     by : (b : Bool) → IsKnownIf L T (exported x es) → IsKnownIf L T (if b then Some e.1 else exported x es)
-    by true i = h.0
+    by true i = h.0.1
     by false i = i
 
-known_export : (L : Places ℕ) (T : Threads) (x : Bytes) (v : Value ℕ) (ns : List (Bytes × Value ℕ)) → IsKnownValue L T v → AreKnownNames L T ns → AreKnownNames L T (export x v ns)
+known_export : (L : Places ℕ) (T : Threads) (x : Bytes) (v : Value ℕ) (ns : List (Bytes × Value ℕ)) → IsText T x × IsKnownValue L T v → AreKnownNames L T ns → AreKnownNames L T (export x v ns)
 known_export L T x v [] i h = (i, tt)
 known_export L T x v (e ∷ es) i h = by (bytes_eq x e.0) (known_export L T x v es i h.1)
   where
@@ -242,8 +243,8 @@ known_imported : (L : Places ℕ) (T : Threads) (st : Store ℕ) (engine : Bool)
 known_imported L T st engine None s h = tt
 known_imported L T st false (Some v) s h = (s, h)
 known_imported L T st true (Some (Loc Engine e)) s h = (s, h)
-known_imported L T st true (Some (Loc Object e)) s h = (s, (tt, tt))
-known_imported L T st true (Some _) s h = (s, (tt, tt))
+known_imported L T st true (Some (Loc Object e)) s h = (s, raises_type L T)
+known_imported L T st true (Some _) s h = (s, raises_type L T)
 
 abbrev pub IsKnownState : Places ℕ → Threads → Option ThreadState → Type 0
 IsKnownState L T None = Unit {0}
@@ -261,7 +262,7 @@ known_joined L T st u (Some state) s h = by state.execution h
     by : (l : Execution) → IsKnownExecution L T l → KnownOutcome L T (elim l [ Running t ↦ Waiting | Returned v ↦ Acting ActKind.Join u st (Const v) | Failed e ↦ Acting ActKind.Join u st (raise e) ])
     by (Running t) i = tt
     by (Returned v) i = (s, i)
-    by (Failed e) i = (s, (tt, tt))
+    by (Failed e) i = (s, (i, tt))
 
 pub known_perform : (L : Places ℕ) (T : Threads) (k : Config) (t : ℕ) (s : Self ℕ) (op : Operation ℕ) → IsKnownStore L T k.store → AreKnownThreads L T k.threads → IsKnownOperation L T op → MakesKnown L T k op → KnownOutcome L T (perform k t s op)
 known_perform L T k t s (New cell after) i ts h m = ((known_new L T k.store.cells cell i.0 h.0, i.1), known_after L T after (length k.store.cells) cell h.1 m)
@@ -282,7 +283,7 @@ known_perform L T k t s (ReadVariable l) i ts h m = (i, known_value L T (cell_at
 known_perform L T k t s (SetVariable l v) i ts h m = known_set_variable L T k.store l v (cell_at k.store l) i h.1
 known_perform L T k t s (Write w x) i ts h m = known_write L T k.store w x (cell_at k.store w) i
 known_perform L T k t s (ForkOff f) i ts h m =
-    outcome_unless L T (nat_le THREAD_LIMIT (length k.threads)) (Acting ActKind.Fork THREAD_LIMIT k.store fork_limit) (Forking (length k.threads) (Form Call (Part (Const f) End)) (Const (Thread (length k.threads)))) (i, (tt, tt)) (λ n. ((tt, (h, tt)), m n))
+    outcome_unless L T (nat_le THREAD_LIMIT (length k.threads)) (Acting ActKind.Fork THREAD_LIMIT k.store fork_limit) (Forking (length k.threads) (Form Call (Part (Const f) End)) (Const (Thread (length k.threads)))) (i, raises_fork_limit L T) (λ n. ((tt, (h, tt)), m n))
 known_perform L T k t s (JoinWith u) i ts h m = known_joined L T k.store u (slice_get k.threads u) i (thread_known L T k.threads u ts)
 known_perform L T k t s (LineUp o c guard) i ts h m = known_line L T ActKind.Line k.store c (λ line. line ++ t ∷ []) (Form (Lined o c) (Part guard End)) (cell_at k.store c) i ((h.0, h.1), (h.2, tt))
 known_perform L T k t s (GiveUp o c guard) i ts h m = (owned_known L T None k.store o (cell_at k.store o) i (known_get L T k.store.cells o i.0), ((h.0, h.1), (h.2, tt)))

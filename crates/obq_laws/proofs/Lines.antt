@@ -1,6 +1,6 @@
 -- Which threads stand in the lines of conditions.
-use Rattle.std.specs.Prelude.{Bool, List, None, Option, Some, T, [], drop, false, if◌then◌else◌, length, nat_le, not, refl, replicate, slice_get, slice_set, suc, true, zero, ℕ, ◌++◌, ◌<◌, ◌==◌, ◌∷◌, ◌≡◌, ◌||◌}
-use Rattle.std.proofs.Common.{inl, inr, subst, ap, sym, ◌∙◌, arith}
+use Rattle.std.specs.Prelude.{Bool, List, None, Option, Some, [], drop, false, if◌then◌else◌, length, nat_le, not, refl, replicate, slice_get, slice_set, suc, true, zero, ℕ, ◌++◌, ◌<◌, ◌==◌, ◌∷◌, ◌≡◌, ◌||◌}
+use Rattle.std.proofs.Common.{inl, inr, subst, ap, sym, ◌∙◌, arith, true≢false}
 use Rattle.std.proofs.lemmas.Bool.{eqb-true, eqb-false}
 use Rattle.obq_base.specs.declared.limits.TheConstants.{THREAD_LIMIT}
 use Rattle.obq_base.specs.declared.acts.ActKind.{ActKind}
@@ -27,9 +27,6 @@ use Rattle.obq_laws.proofs.Methods.{IsSourceOperation, IsGood, good_find}
 use Rattle.obq_laws.proofs.Formed.{GoodThreadState, good_state, entry_formed, opening_of_formed}
 use Rattle.obq_laws.proofs.OwnerTerms.{eq_refl}
 use Rattle.obq_laws.proofs.Turns.{turn_taken, kept_by_replay}
-
-true_false : true ≡ false → ⊥
-true_false e = subst T e tt
 
 -- ---- what acts do to lines
 
@@ -191,7 +188,7 @@ later_same : (v : ℕ) (line : List ℕ) → IsLater v line line
 later_same v line h = (h, (λ e. e))
 
 some_in : (v : ℕ) (line : List ℕ) → in_line v line ≡ true → count_in v line ≡ 0 → ⊥
-some_in v [] h e = absurd (true_false (sym h))
+some_in v [] h e = absurd (true≢false (sym h))
 some_in v (u ∷ us) h e = by (v == u) h e (some_in v us)
   where
     by : (b : Bool) → (b || in_line v us) ≡ true → (if b then suc (count_in v us) else count_in v us) ≡ 0 → (in_line v us ≡ true → count_in v us ≡ 0 → ⊥) → ⊥
@@ -225,7 +222,7 @@ later_add v t [] ne h = absurd (by (v == t) refl h)
   where
     by : (b : Bool) → (v == t) ≡ b → (b || false) ≡ true → ⊥
     by true q r = ne (eqb-true v t q)
-    by false q r = true_false (sym r)
+    by false q r = true≢false (sym r)
 later_add v t (u ∷ us) ne h = by (v == u) h (later_add v t us ne)
   where
     by : (b : Bool) → (b || in_line v (us ++ t ∷ [])) ≡ true → IsLater v us (us ++ t ∷ []) → ((b || in_line v us) ≡ true) × ((if b then suc (count_in v us) else count_in v us) ≡ 1 → (if b then suc (count_in v (us ++ t ∷ [])) else count_in v (us ++ t ∷ [])) ≡ 1)
@@ -238,14 +235,14 @@ added_once t [] h = ap (λ b. if b then suc (count_in t []) else count_in t []) 
 added_once t (u ∷ us) h = by (t == u) h (added_once t us)
   where
     by : (b : Bool) → (b || in_line t us) ≡ false → (in_line t us ≡ false → count_in t (us ++ t ∷ []) ≡ 1) → (if b then suc (count_in t (us ++ t ∷ [])) else count_in t (us ++ t ∷ [])) ≡ 1
-    by true r next = absurd (true_false r)
+    by true r next = absurd (true≢false r)
     by false r next = next r
 
 -- what an operation leaves of a line is later for all other threads
 later_behind : (v t : ℕ) (op : Operation ℕ) (line : List ℕ) → (v ≡ t → ⊥) → IsLater v line (line_behind t op line)
 later_behind v t (LineUp o c guard) line ne = later_add v t line ne
 later_behind v t (Signal c) line ne = later_drop v line
-later_behind v t (Broadcast c) line ne = λ h. absurd (true_false (sym h))
+later_behind v t (Broadcast c) line ne = λ h. absurd (true≢false (sym h))
 later_behind v t op line ne = later_same v line
 
 -- ---- threads
@@ -361,7 +358,7 @@ own_lines k t used u (Again o q guard) fs st focus n law here found left w c i =
     let old : in_line t (line_at k.store c) ≡ true = sym (ap (in_line t) (left c)) ∙ i in
     let here_too : Some q ≡ Some c = next_at k t used u (Needs (Again o q guard) fs) law here found c old in
     let same : q ≡ c = cc here_too in
-    absurd (true_false (sym old ∙ ap (λ p. in_line t (line_at k.store p)) (sym same) ∙ w))
+    absurd (true≢false (sym old ∙ ap (λ p. in_line t (line_at k.store p)) (sym same) ∙ w))
 own_lines k t used u (New cell after) fs st focus n law here found left w c i = own_rest k t used u (New cell after) fs st focus n law here found left (λ line. later_same t line) refl c i
 own_lines k t used u (Get p x) fs st focus n law here found left w c i = own_rest k t used u (Get p x) fs st focus n law here found left (λ line. later_same t line) refl c i
 own_lines k t used u (CallMethod p x vs) fs st focus n law here found left w c i = own_rest k t used u (CallMethod p x vs) fs st focus n law here found left (λ line. later_same t line) refl c i
@@ -380,7 +377,7 @@ own_lines k t used u (Write z x) fs st focus n law here found left w c i = own_r
 own_lines k t used u (ForkOff f) fs st focus n law here found left w c i = own_rest k t used u (ForkOff f) fs st focus n law here found left (λ line. later_same t line) refl c i
 own_lines k t used u (JoinWith z) fs st focus n law here found left w c i = own_rest k t used u (JoinWith z) fs st focus n law here found left (λ line. later_same t line) refl c i
 own_lines k t used u (Signal q) fs st focus n law here found left w c i = own_rest k t used u (Signal q) fs st focus n law here found left (λ line. later_drop t line) refl c i
-own_lines k t used u (Broadcast q) fs st focus n law here found left w c i = own_rest k t used u (Broadcast q) fs st focus n law here found left (λ line. (λ h. absurd (true_false (sym h)))) refl c i
+own_lines k t used u (Broadcast q) fs st focus n law here found left w c i = own_rest k t used u (Broadcast q) fs st focus n law here found left (λ line. (λ h. absurd (true≢false (sym h)))) refl c i
 own_lines k t used u (Export x v) fs st focus n law here found left w c i = own_rest k t used u (Export x v) fs st focus n law here found left (λ line. later_same t line) refl c i
 own_lines k t used u (Import x engine) fs st focus n law here found left w c i = own_rest k t used u (Import x engine) fs st focus n law here found left (λ line. later_same t line) refl c i
 own_lines k t used u (RunEngine r f) fs st focus n law here found left w c i = own_rest k t used u (RunEngine r f) fs st focus n law here found left (λ line. later_same t line) refl c i
@@ -471,7 +468,7 @@ no_lines (suc n) zero = refl
 no_lines (suc n) (suc p) = no_lines n p
 
 opening_lines : (trees : List BlockTree) → LinesHold (opening trees)
-opening_lines trees c t i = absurd (true_false (sym i ∙ ap (in_line t) (no_lines (length (opening_terms 0 trees)) c)))
+opening_lines trees c t i = absurd (true≢false (sym i ∙ ap (in_line t) (no_lines (length (opening_terms 0 trees)) c)))
 
 pub lines_law : LinesLaw
 lines_law trees turns es k r =

@@ -9,8 +9,8 @@ use Rattle.obq_model.specs.Step.{no_self, find}
 use Rattle.obq_model.specs.Config.{Execution, Running, Returned, Failed, ThreadState, Config}
 use Rattle.obq_model.specs.Replay.{after_pure, take_state, take_entry, replay_from}
 use Rattle.obq_model.specs.Located.{Located, site_here, Trail, after_steps, site_at, place_in, after_act, after_entry, locate_execution, locate_from, with_waiting, located_opening}
+use Rattle.obq_model.proofs.Options.{none_some}
 use Rattle.obq_laws.specs.LocatedReplay.{LocatedReplay}
-use Rattle.obq_laws.proofs.HeldActs.{none_some}
 
 abbrev configs : Option Located → Option Config
 configs o = option_map (λ (l : Located). l.config) o

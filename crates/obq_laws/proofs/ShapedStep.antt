@@ -13,8 +13,9 @@ use Rattle.obq_model.specs.Builtins.{is_i64, number, divided, same, compared, op
 use Rattle.obq_model.specs.Store.{ObjectCell, ArrayCell, VariableCell, ConditionCell, EngineCell, field_names, twice}
 use Rattle.obq_model.specs.Step.{Self, Itself, Entered, Offered, Operation, New, Get, CallMethod, Leave, Set, Copy, RedirectTo, GetItem, GetSize, EachSize, EachItem, SetItem, ReadVariable, SetVariable, Write, ForkOff, JoinWith, LineUp, GiveUp, Again, Signal, Broadcast, Export, Import, RunEngine, operands_of, is_operand, Pending, values_before, plug, self_in, activations_in, Found, Next, Needs, Done, Uncaught, part_at, params_of, body_with, is_call_limit, call_closure, with_one_parameter, call_engine, is_callable, call_value, field_before, fields_of, layout_names, new_object, objects, clone, array_of_size, fork_of, apply, counting, choose, out_of_method, chosen, tested, watching, cloned, row, out_of_loop, out_of_try, at_raised, through, find, find_part, next_of}
 use Rattle.obq_model.specs.Shapes.{Pattern, NoParts, ATerm, AScope, OneName, ATarget, Terms, AtMostOne, AGroup, Never, terms_then, scopes, methods_of, pattern_of, IsShaped, AreShaped, IsShapedScope, IsShapedUnderOne, IsShapedValue, IsShapedKind, AreShapedFields, IsShapedField}
+use Rattle.obq_model.proofs.Options.{none_some}
 use Rattle.obq_laws.specs.Shaping.{StepShaped, AllShaped, ShapedOperation}
-use Rattle.obq_laws.proofs.HeldActs.{clash, none_some}
+use Rattle.obq_laws.proofs.HeldActs.{clash}
 use Rattle.obq_laws.proofs.ShapedPut.{shaped_enter, one_scope, shaped_put_members, shaped_body}
 
 -- what is found in a rightly shaped term

@@ -14,10 +14,10 @@ use Rattle.obq_model.specs.Config.{Execution, Running, Returned, Failed, ThreadS
 use Rattle.obq_model.specs.Effect.{Outcome, Waiting, Acting, Forking, perform, Does, after_outcome, end_by, effect_of, effect_of_state, effect}
 use Rattle.obq_model.specs.Opening.{opening}
 use Rattle.obq_model.specs.Replay.{after_pure, kind_same, act_same, spend, with_turns, exactly, then_act, act_turns, take_of, take_execution, take_state, take_entry, replay_from, replay}
+use Rattle.obq_model.proofs.Options.{none_some}
 use Rattle.obq_model.proofs.Slices.{get_below, set_same, set_set, set_own, set_length, push_other, push_set}
 use Rattle.obq_laws.specs.Determinism.{entry_of}
 use Rattle.obq_laws.specs.Turns.{state_of, changed, with_thread, CanGo, Turn, Steps, Acts, Forks, Ends, Raises, Turns, NoTurn, TheAct, AStep, TurnByTurn, alone, TurnTaken}
-use Rattle.obq_laws.proofs.HeldActs.{none_some}
 use Rattle.obq_laws.proofs.OwnerTerms.{eq_refl}
 use Rattle.obq_laws.proofs.Exclusion.{act_same_eq}
 use Rattle.obq_laws.proofs.Determinism.{cut_entry}

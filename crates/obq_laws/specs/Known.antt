@@ -1,33 +1,30 @@
 -- Terms whose locations, thread numbers and members are known: each location is one of its kind that L allows, each thread one that T allows,
 -- each member an index of its group, and no closure lies too deep. Where T says that they are bounded, integers have 64 bits, and texts at most
--- 65,536 bytes.
-use Rattle.std.specs.Prelude.{List, None, Option, Some, [], length, map, slice_get, true, ℕ, ℤ, ◌<◌, ◌∷◌, ◌≡◌, ◌≤◌}
+-- 65,536 bytes, also those of exceptions and names of exports. Object literals have no more methods than T says.
+use Rattle.std.specs.Prelude.{List, None, Option, Some, [], length, slice_get, true, ℕ, ℤ, ◌<◌, ◌∷◌, ◌≡◌, ◌≤◌}
 use Rattle.obq_base.specs.declared.acts.Entry.{Entry}
 use Rattle.obq_base.specs.declared.limits.TheConstants.{ARRAY_LIMIT, CLOSURE_LIMIT, TEXT_LIMIT}
-use Rattle.obq_base.specs.declared.tokens.TokenKind.{TokenKind}
-use Rattle.obq_base.specs.declared.tokens.TokenKind.TheVariants as kind_of
-use Rattle.obq_base.specs.declared.trees.Block.{Block}
 use Rattle.obq_base.specs.Tree.{BlockTree}
-use Rattle.obq_base.specs.View.{block_tree}
-use Rattle.obq_model.specs.Sources.{AreAccepted}
-use Rattle.obq_model.specs.Terms.{Bytes, LocKind, Object, Array, Variable, Writer, Condition, Engine, Value, Int, Text, Exc, Thread, Closure, Member, Loc, FieldBody, IsValue, IsMethod, IsAlias, Fields, Bare, Field, Kind, Read, Within, Counting, EachAt, EachIn, Cloning, Testing, Lined, Out, Term, Const, Name, Under, Form, Parts, End, Part}
+use Rattle.obq_model.specs.Terms.{Bytes, LocKind, Object, Array, Variable, Writer, Condition, Engine, Value, Int, Text, Exc, Thread, Closure, Member, Loc, FieldBody, IsValue, IsMethod, IsAlias, Layout, Raised, Exn, ExitUp, Fields, Bare, Field, Kind, MakeObject, Read, Raising, Within, Counting, EachAt, EachIn, Choosing, Unmet, Cloning, Testing, Lined, Out, Term, Const, Name, Under, Form, Parts, End, Part}
 use Rattle.obq_model.specs.Depth.{deepest, deepest_of}
 use Rattle.obq_model.specs.Store.{Cell, ObjectCell, ArrayCell, VariableCell, WriterCell, ConditionCell, EngineCell, Store, same_loc}
-use Rattle.obq_model.specs.Step.{no_self, After, Itself, Entered, Offered, Operation, New, Get, CallMethod, Leave, Set, Copy, RedirectTo, GetItem, GetSize, EachSize, EachItem, SetItem, ReadVariable, SetVariable, Write, ForkOff, JoinWith, LineUp, GiveUp, Again, Signal, Broadcast, Export, RunEngine, Frame, Pending, Found, Next, Needs, Done, Uncaught, params_of, find}
+use Rattle.obq_model.specs.Step.{no_self, After, Itself, Entered, Offered, Operation, New, Get, CallMethod, Leave, Set, Copy, RedirectTo, GetItem, GetSize, EachSize, EachItem, SetItem, ReadVariable, SetVariable, Write, ForkOff, JoinWith, LineUp, GiveUp, Again, Signal, Broadcast, Export, Import, RunEngine, Frame, Pending, Found, Next, Needs, Done, Uncaught, params_of, find}
 use Rattle.obq_model.specs.Config.{Execution, Running, Returned, Failed, ThreadState, Config, cell_at}
 use Rattle.obq_model.specs.Replay.{replay}
 use Rattle.obq_model.specs.Builtins.{is_i64}
 use Rattle.obq_model.specs.Leaves.{AreBounded}
+use Rattle.obq_laws.specs.Literals.{HasAtMost, AreNarrow}
 use Rattle.obq_laws.specs.Turns.{state_of}
 
 -- which locations there are
 abbrev pub Places : Type 0 → Type 1
 Places R = LocKind → R → Type 0
 
--- which threads there are, and that integers and texts are bounded
+-- which threads there are, that integers and texts are bounded, and how many methods object literals have at most
 pub record Threads : Type 1 where
   pub numbers : ℕ → Type 0
   pub bounded : Type 0
+  pub narrow : ℕ → Type 0
 
 -- an integer has 64 bits, a text at most 65,536 bytes, if they are bounded
 abbrev pub IsInt : Threads → ℤ → Type 0
@@ -35,6 +32,15 @@ IsInt T z = T.bounded → is_i64 z ≡ true
 
 abbrev pub IsText : Threads → Bytes → Type 0
 IsText T bytes = T.bounded → length bytes ≤ TEXT_LIMIT
+
+-- a raising goes up with such a text
+abbrev pub IsRaised : Threads → Raised → Type 0
+IsRaised T (Exn text) = IsText T text
+IsRaised T ExitUp = Unit {0}
+
+-- an object literal has no more methods than each bound says
+abbrev pub IsLiteral : Threads → Layout → Type 0
+IsLiteral T shape = (n : ℕ) → T.narrow n → HasAtMost n shape
 
 -- all of these are objects
 abbrev pub AllObjects : {R : Type 0} → Places R → List R → Type 0
@@ -63,11 +69,15 @@ abbrev mutual
   IsKnownValue L T v = Unit {0}
 
   pub IsKnownKind : {R : Type 0} → Places R → Threads → Kind R → Type 0
+  IsKnownKind L T (MakeObject flags shape) = IsLiteral T shape
   IsKnownKind L T (Read l) = L Variable l
+  IsKnownKind L T (Raising r) = IsRaised T r
   IsKnownKind L T (Within o m) = L Object o
   IsKnownKind L T (Counting i n) = IsInt T i × IsInt T n
   IsKnownKind L T (EachAt r i n) = L Array r
   IsKnownKind L T (EachIn r i n) = L Array r
+  IsKnownKind L T (Choosing text) = IsText T text
+  IsKnownKind L T (Unmet text) = IsText T text
   IsKnownKind L T (Cloning flags fields rest) = AreKnownFields L T fields × AllObjects L rest
   IsKnownKind L T (Testing o c) = L Object o × L Condition c
   IsKnownKind L T (Lined o c) = L Object o × L Condition c
@@ -140,9 +150,9 @@ IsKnownOperation L T (GiveUp o c guard) = L Object o × L Condition c × IsKnown
 IsKnownOperation L T (Again o c guard) = L Object o × L Condition c × IsKnown L T guard
 IsKnownOperation L T (Signal c) = L Condition c
 IsKnownOperation L T (Broadcast c) = L Condition c
-IsKnownOperation L T (Export x v) = IsKnownValue L T v
+IsKnownOperation L T (Export x v) = IsText T x × IsKnownValue L T v
+IsKnownOperation L T (Import x engine) = IsText T x
 IsKnownOperation L T (RunEngine e f) = L Engine e × IsKnownValue L T f × HasOneParameter (params_of f)
-IsKnownOperation L T op = Unit {0}
 
 abbrev pub IsKnownFrame : {R : Type 0} → Places R → Threads → Frame R → Type 0
 IsKnownFrame L T (Pending k before after) = IsKnownKind L T k × AllKnown L T before × AreKnown L T after
@@ -156,7 +166,7 @@ abbrev pub IsKnownFound : {R : Type 0} → Places R → Threads → Found R → 
 IsKnownFound L T (Next u) = IsKnown L T u
 IsKnownFound L T (Needs op fs) = IsKnownOperation L T op × AreKnownFrames L T fs
 IsKnownFound L T (Done v) = IsKnownValue L T v
-IsKnownFound L T (Uncaught r) = Unit {0}
+IsKnownFound L T (Uncaught r) = IsRaised T r
 
 -- the current self is an object
 abbrev pub IsKnownSelf : {R : Type 0} → Places R → Option R → Type 0
@@ -174,13 +184,13 @@ HasKind kind (Some c) = location_kind c ≡ kind
 abbrev pub IsPlace : Store ℕ → LocKind → ℕ → Type 0
 IsPlace st kind r = HasKind kind (cell_at st r)
 
--- so many threads; integers and texts are bounded where B holds
-abbrev pub Numbered : Type 0 → ℕ → Threads
-Numbered B n = record { numbers = λ u. u < n; bounded = B }
+-- so many threads; integers, texts and object literals are bounded where those of the trees are
+abbrev pub Numbered : List BlockTree → ℕ → Threads
+Numbered trees n = record { numbers = λ u. u < n; bounded = AreBounded trees; narrow = λ m. AreNarrow m trees }
 
 -- these threads
-abbrev pub Counted : Type 0 → List ThreadState → Threads
-Counted B ts = Numbered B (length ts)
+abbrev pub Counted : List BlockTree → List ThreadState → Threads
+Counted trees ts = Numbered trees (length ts)
 
 abbrev pub AreKnownCells : Places ℕ → Threads → List (Cell ℕ) → Type 0
 AreKnownCells L T [] = Unit {0}
@@ -188,7 +198,7 @@ AreKnownCells L T (c ∷ cs) = IsKnownCell L T c × AreKnownCells L T cs
 
 abbrev pub AreKnownNames : Places ℕ → Threads → List (Bytes × Value ℕ) → Type 0
 AreKnownNames L T [] = Unit {0}
-AreKnownNames L T (e ∷ es) = IsKnownValue L T e.1 × AreKnownNames L T es
+AreKnownNames L T (e ∷ es) = (IsText T e.0 × IsKnownValue L T e.1) × AreKnownNames L T es
 
 abbrev pub IsKnownStore : Places ℕ → Threads → Store ℕ → Type 0
 IsKnownStore L T st = AreKnownCells L T st.cells × AreKnownNames L T st.names
@@ -196,24 +206,25 @@ IsKnownStore L T st = AreKnownCells L T st.cells × AreKnownNames L T st.names
 abbrev pub IsKnownExecution : Places ℕ → Threads → Execution → Type 0
 IsKnownExecution L T (Running u) = IsKnown L T u
 IsKnownExecution L T (Returned v) = IsKnownValue L T v
-IsKnownExecution L T (Failed e) = Unit {0}
+IsKnownExecution L T (Failed e) = IsText T e
 
 abbrev pub AreKnownThreads : Places ℕ → Threads → List ThreadState → Type 0
 AreKnownThreads L T [] = Unit {0}
 AreKnownThreads L T (s ∷ ss) = IsKnownExecution L T s.execution × AreKnownThreads L T ss
 
 -- in all terms and cells each location names a cell of its kind, each thread number a thread, each member index a member,
--- no closure lies deeper than 1,000, and no array is longer than 65,536; where B holds, integers have 64 bits, and texts at most 65,536 bytes
-abbrev pub IsKnownConfig : Type 0 → Config → Type 0
-IsKnownConfig B k = IsKnownStore (IsPlace k.store) (Counted B k.threads) k.store × AreKnownThreads (IsPlace k.store) (Counted B k.threads) k.threads
+-- no closure lies deeper than 1,000, and no array is longer than 65,536; where those of the trees are so, integers have 64 bits, texts at most 65,536
+-- bytes, and object literals no more than so many methods
+abbrev pub IsKnownConfig : List BlockTree → Config → Type 0
+IsKnownConfig trees k = IsKnownStore (IsPlace k.store) (Counted trees k.threads) k.store × AreKnownThreads (IsPlace k.store) (Counted trees k.threads) k.threads
 
--- so in every configuration that a journal of a program replays to, with integers and texts bounded where those of its trees are
+-- so in every configuration that a journal of a program replays to, with integers, texts and object literals bounded where those of its trees are
 abbrev pub ReferencesLaw : Type 0
-ReferencesLaw = (trees : List BlockTree) (turns : ℕ) (es : List Entry) (k : Config) → replay trees turns es ≡ Some k → IsKnownConfig (AreBounded trees) k
+ReferencesLaw = (trees : List BlockTree) (turns : ℕ) (es : List Entry) (k : Config) → replay trees turns es ≡ Some k → IsKnownConfig trees k
 
 -- where an act stands next in a thread, its location names a cell of the kind that the act is on
 abbrev pub NextIsKnown : Type 0
 NextIsKnown =
     (trees : List BlockTree) (turns : ℕ) (es : List Entry) (k : Config) (t used : ℕ) (u : Term ℕ) (op : Operation ℕ) (fs : List (Frame ℕ))
     → replay trees turns es ≡ Some k → slice_get k.threads t ≡ Some (state_of (Running u) used) → find same_loc 0 no_self u ≡ Needs op fs
-    → IsKnownOperation (IsPlace k.store) (Counted (AreBounded trees) k.threads) op
+    → IsKnownOperation (IsPlace k.store) (Counted trees k.threads) op

@@ -10,6 +10,3 @@ mod texts;
 
 pub use lexer::{LexRefused, lex};
 pub use obq_base::LexKind;
-
-#[cfg(test)]
-mod tests;

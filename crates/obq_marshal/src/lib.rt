@@ -11,6 +11,3 @@ pub use cache::ImportCache;
 pub use carried::Carried;
 pub use laws::{closures_travel, packed_in_order, packed_in_range};
 pub use packing::pack;
-
-#[cfg(test)]
-mod tests;

@@ -1,13 +1,13 @@
 -- The free occurrences of a name in a tree: none where it is bound, and of the bound names only that counts whether it is among them.
 use Rattle.std.specs.Prelude.{Bool, List, [], bytes_eq, false, if◌then◌else◌, refl, true, ℕ, ◌++◌, ◌∷◌, ◌≡◌, ◌||◌}
 use Rattle.std.proofs.lemmas.Slice.Eq.{bytes_eq-Decides}
-use Rattle.std.proofs.Common.{ap, sym, ◌∙◌}
+use Rattle.std.proofs.Common.{ap, sym, ◌∙◌, true≢false}
 use Rattle.obq_base.specs.declared.occurrences.Occurrence.{Occurrence}
 use Rattle.obq_base.specs.Tree.{BlockTree, BlockOf, MaybeBlock, NoBlock, ABlock, ItemTrees, NoItems, AnItem, ItemTree, LetItem, VarItem, LetRecItem, AssignItem, FieldItem, IndexItem, PlainItem, BindTrees, NoBinds, ABind, RecBindTrees, NoRecBinds, ARecBind, ProcedureTree, AProc, FieldTree, ValueOf, MethodOf, AliasOf, ExprTree, IntTree, TextTree, TruthTree, OkTree, NameTree, ProcTree, ArrayTree, ObjectTree, IfTree, LoopTree, ExitTree, ForTree, ForeachTree, TryTree, FinallyTree, RaiseTree, WatchTree, RedirectTree, CloneTree, ChainTree, SuffixedTree, ExprTrees, NoExprs, AnExpr, LinkTrees, NoLinks, ALink, SuffixTree, ApplySuffix, SelectSuffix, InvokeSuffix, IndexSuffix, SuffixTrees, NoSuffixes, ASuffix, ArmTrees, NoArms, AnArm, FieldTrees, NoFields, AField}
 use Rattle.obq_model.specs.Terms.{Bytes}
 use Rattle.obq_model.specs.Put.{among}
 use Rattle.obq_model.specs.Occurrences.{free_arms, free_binds, free_block, free_expr, free_exprs, free_field, free_fields, free_item, free_items, free_links, free_maybe, free_members, free_procedure, free_suffix, free_suffixes, is_called, item_names, member_names, occurrence}
-use Rattle.obq_model.proofs.Among.{among_append, true_false}
+use Rattle.obq_model.proofs.Among.{among_append}
 
 -- one of these is an occurrence of x
 abbrev pub names_it : Bytes → List Occurrence → Bool
@@ -29,8 +29,8 @@ pub record Depends (x : Bytes) (f : List Bytes → List Occurrence) : Type 0 whe
 pub fewer : {x : Bytes} {f : List Bytes → List Occurrence} → Depends x f → (b c : List Bytes) → (among x c ≡ true → among x b ≡ true) → names_it x (f b) ≡ true → names_it x (f c) ≡ true
 fewer {x} {f} d b c h e = at (among x b) refl (among x c) refl where
   at : (p : Bool) → among x b ≡ p → (q : Bool) → among x c ≡ q → names_it x (f c) ≡ true
-  at true k q l = absurd (true_false (sym e ∙ d.none b k))
-  at false k true l = absurd (true_false (sym (h l) ∙ k))
+  at true k q l = absurd (true≢false (sym e ∙ d.none b k))
+  at false k true l = absurd (true≢false (sym (h l) ∙ k))
   at false k false l = d.same c b (l ∙ sym k) ∙ e
 
 empty : (x : Bytes) → Depends x (λ b. [])
@@ -62,7 +62,7 @@ single x called y place = record { none = λ b e. absent b e (among y b) refl; s
   absent b e false q = ap (λ d. names_it x (row d)) q ∙ other (bytes_eq x y) refl false (differ (bytes_eq x y) refl) where
     differ : (c : Bool) → bytes_eq x y ≡ c → c ≡ false
     differ false k = refl
-    differ true k = absurd (true_false (sym e ∙ ap (λ z. among z b) ((bytes_eq-Decides x y).0 k) ∙ q))
+    differ true k = absurd (true≢false (sym e ∙ ap (λ z. among z b) ((bytes_eq-Decides x y).0 k) ∙ q))
 
   alike : (b c : List Bytes) → among x b ≡ among x c → (r : Bool) → bytes_eq x y ≡ r → (p : Bool) → among y b ≡ p → (q : Bool) → among y c ≡ q → names_it x (row (among y b)) ≡ names_it x (row (among y c))
   alike b c e true k p l q m = ap (λ d. names_it x (row d)) (ap (λ z. among z b) (sym ((bytes_eq-Decides x y).0 k)) ∙ e ∙ ap (λ z. among z c) ((bytes_eq-Decides x y).0 k))

@@ -2,7 +2,7 @@
 use Rattle.std.specs.Prelude.{Bool, List, None, Option, Some, [], bytes_eq, false, if◌then◌else◌, is_some, not, refl, true, ℕ, ◌&&◌, ◌++◌, ◌⊎◌, ◌∷◌, ◌≡◌, ◌||◌}
 use Rattle.std.proofs.lemmas.List.{append-nil, append_assoc}
 use Rattle.std.proofs.lemmas.Slice.Eq.{bytes_eq-Decides}
-use Rattle.std.proofs.Common.{inl, inr, subst, ap, sym, ◌∙◌}
+use Rattle.std.proofs.Common.{inl, inr, subst, ap, sym, ◌∙◌, true≢false}
 use Rattle.obq_base.specs.declared.trees.Operator.{Operator}
 use Rattle.obq_base.specs.declared.occurrences.Occurrence.{Occurrence}
 use Rattle.obq_base.specs.Tree.{BlockTree, BlockOf, MaybeBlock, NoBlock, ABlock, ItemTrees, NoItems, AnItem, ItemTree, LetItem, VarItem, LetRecItem, AssignItem, FieldItem, IndexItem, PlainItem, BindTrees, NoBinds, ABind, RecBindTrees, NoRecBinds, ARecBind, ProcedureTree, AProc, FieldTree, ValueOf, MethodOf, AliasOf, ExprTree, IntTree, TextTree, TruthTree, OkTree, NameTree, ProcTree, ArrayTree, ObjectTree, IfTree, LoopTree, ExitTree, ForTree, ForeachTree, TryTree, FinallyTree, RaiseTree, WatchTree, RedirectTree, CloneTree, ChainTree, SuffixedTree, ExprTrees, NoExprs, AnExpr, LinkTrees, NoLinks, ALink, SuffixTree, ApplySuffix, SelectSuffix, InvokeSuffix, IndexSuffix, SuffixTrees, NoSuffixes, ASuffix, ArmTrees, NoArms, AnArm, FieldTrees, NoFields, AField}
@@ -14,7 +14,7 @@ use Rattle.obq_model.specs.Scopes.{Outside, captured_from, captured_of, inside, 
 use Rattle.obq_model.specs.Draft.{called_row, captured_by, captured_by_group}
 use Rattle.obq_model.specs.Opened.{builtin_at, open_arms, open_binds, open_block, open_body, open_called, open_chain, open_expr, open_exprs, open_field, open_if, open_item, open_items, open_maybe, open_maybe_parts, open_members, open_methods, open_name, open_operands, open_suffix, open_suffixes}
 use Rattle.obq_model.specs.Opening.{linked}
-use Rattle.obq_model.proofs.Among.{among_append, either, left_of, right_of, true_false}
+use Rattle.obq_model.proofs.Among.{among_append, either, left_of, right_of}
 use Rattle.obq_model.proofs.Depends.{Depends, both, shifted, names_it, names_append, fewer, in_block, in_items, in_members, in_procedure, in_binds}
 
 -- x is covered here, and bound where it is a name of the code
@@ -33,10 +33,10 @@ parted : (x : Bytes) (a b : List Occurrence) → names_it x (a ++ b) ≡ true �
 parted x a b e = either (names_it x a) (names_it x b) (sym (names_append x a b) ∙ e)
 
 nothing : {R : Type 0} (x : Bytes) (t : Term R) → Finds x [] t
-nothing x t = record { finds = λ e. absurd (true_false (sym e)) }
+nothing x t = record { finds = λ e. absurd (true≢false (sym e)) }
 
 nothing_in : {R : Type 0} (x : Bytes) (ts : Parts R) → FindsIn x [] ts
-nothing_in x ts = record { finds = λ e. absurd (true_false (sym e)) }
+nothing_in x ts = record { finds = λ e. absurd (true≢false (sym e)) }
 
 one : {R : Type 0} {x : Bytes} {a b : List Occurrence} {t : Term R} {ts : Parts R} → Finds x a t → FindsIn x b ts → FindsIn x (a ++ b) (Part t ts)
 one {R} {x} {a} {b} {t} {ts} h k = record { finds = λ e. elim (parted x a b e) [ inl f ↦ left_of (occurs x t) (occurs_in x ts) (h.finds f) | inr f ↦ right_of (occurs x t) (occurs_in x ts) (k.finds f) ] }
@@ -46,13 +46,6 @@ last {R} {x} {a} {t} h = record { finds = λ e. left_of (occurs x t) false (h.fi
 
 form : {R : Type 0} {x : Bytes} {a : List Occurrence} {ts : Parts R} (k : Kind R) → FindsIn x a ts → Finds x a (Form k ts)
 form k h = record { finds = h.finds }
-
--- the same occurrences, spelled otherwise
-also_in : {R : Type 0} {x : Bytes} {a b : List Occurrence} {t : Term R} → (names_it x b ≡ true → names_it x a ≡ true) → Finds x a t → Finds x b t
-also_in h k = record { finds = λ e. k.finds (h e) }
-
-also_parts : {R : Type 0} {x : Bytes} {a b : List Occurrence} {ts : Parts R} → (names_it x b ≡ true → names_it x a ≡ true) → FindsIn x a ts → FindsIn x b ts
-also_parts h k = record { finds = λ e. k.finds (h e) }
 
 -- under more binders
 deeper : {x : Bytes} {u : Outside} {names bound : List Bytes} (xs : List Bytes) → Seen x u names bound → Seen x u (names ++ xs) (bound ++ xs)
@@ -71,7 +64,7 @@ same_seen {x} {u} {names} {bound} s = record { covered = s.covered; within = λ 
 under : {R : Type 0} {x : Bytes} {f : List Bytes → List Occurrence} {t : Term R} → Depends x f → (bound xs : List Bytes) → Finds x (f (bound ++ xs)) t → Finds x (f (bound ++ xs)) (Under xs t)
 under {R} {x} {f} {t} d bound xs h = record { finds = λ e. at (among x xs) refl e } where
   at : (b : Bool) → among x xs ≡ b → names_it x (f (bound ++ xs)) ≡ true → (not (among x xs) && occurs x t) ≡ true
-  at true q e = absurd (true_false (sym e ∙ d.none (bound ++ xs) (among_append x bound xs ∙ right_of (among x bound) (among x xs) q)))
+  at true q e = absurd (true≢false (sym e ∙ d.none (bound ++ xs) (among_append x bound xs ∙ right_of (among x bound) (among x xs) q)))
   at false q e = ap (λ b. not b && occurs x t) q ∙ h.finds e
 
 -- what occurs and is covered is captured
@@ -84,11 +77,11 @@ captured_has x u names us c e = from us [] (inr e) where
   adds : (acc : List Bytes) (o : Occurrence) → bytes_eq x o.name ≡ true → (b d : Bool) → is_covered u names o.name ≡ b → among o.name acc ≡ d → among x (if b && not d then acc ++ o.name ∷ [] else acc) ≡ true
   adds acc o e true true q k = ap (λ z. among z acc) ((bytes_eq-Decides x o.name).0 e) ∙ k
   adds acc o e true false q k = among_append x acc (o.name ∷ []) ∙ right_of (among x acc) _ (left_of (bytes_eq x o.name) false e)
-  adds acc o e false d q k = absurd (true_false (sym c ∙ ap (is_covered u names) ((bytes_eq-Decides x o.name).0 e) ∙ q))
+  adds acc o e false d q k = absurd (true≢false (sym c ∙ ap (is_covered u names) ((bytes_eq-Decides x o.name).0 e) ∙ q))
 
   from : (us : List Occurrence) (acc : List Bytes) → (among x acc ≡ true) ⊎ (names_it x us ≡ true) → among x (captured_from u names acc us) ≡ true
   from [] acc (inl e) = e
-  from [] acc (inr e) = absurd (true_false (sym e))
+  from [] acc (inr e) = absurd (true≢false (sym e))
   from (o ∷ us) acc (inl e) = from us (if is_covered u names o.name && not (among o.name acc) then acc ++ o.name ∷ [] else acc) (inl (keeps acc o (is_covered u names o.name && not (among o.name acc)) e))
   from (o ∷ us) acc (inr e) = elim (either (bytes_eq x o.name) (names_it x us) e) [
     | inl f ↦ from us (if is_covered u names o.name && not (among o.name acc) then acc ++ o.name ∷ [] else acc) (inl (adds acc o f (is_covered u names o.name) (among o.name acc) refl refl))
@@ -98,19 +91,19 @@ captured_has x u names us c e = from us [] (inr e) where
 -- no name is called where there is no call, and none that is covered is a built-in's
 pub row_called : (u : Outside) (names : List Bytes) (e : ExprTree) (ss : SuffixTrees) (row : ℕ) → called_row u names e ss ≡ Some row → is_called ss ≡ true
 row_called u names (NameTree y place) (ASuffix (ApplySuffix es place2) ss) row k = refl
-row_called u names e ss row k = absurd (true_false (sym (ap is_some k)))
+row_called u names e ss row k = absurd (true≢false (sym (ap is_some k)))
 
 uncalled : (x : Bytes) (u : Outside) (names bound : List Bytes) (called : Bool) (e : ExprTree) (ss : SuffixTrees) (row : ℕ) → is_covered u names x ≡ true → called_row u names e ss ≡ Some row → names_it x (free_expr bound called e) ≡ true → ⊥
 uncalled x u names bound called (NameTree y place) (ASuffix (ApplySuffix es place2) ss) row c k f = at (is_covered u names y) refl (among y bound) refl where
   at : (b : Bool) → is_covered u names y ≡ b → (d : Bool) → among y bound ≡ d → ⊥
-  at true q d l = true_false (sym (ap is_some k) ∙ ap (λ (b : Bool). is_some (if b then None else builtin_row y)) q)
-  at false q true l = true_false (sym f ∙ ap (λ (b : Bool). names_it x (if b then [] else record { name = y; place = place; called = called } ∷ [])) l)
+  at true q d l = true≢false (sym (ap is_some k) ∙ ap (λ (b : Bool). is_some (if b then None else builtin_row y)) q)
+  at false q true l = true≢false (sym f ∙ ap (λ (b : Bool). names_it x (if b then [] else record { name = y; place = place; called = called } ∷ [])) l)
   at false q false l =
-      true_false (sym c ∙ ap (is_covered u names) ((bytes_eq-Decides x y).0 (only (bytes_eq x y) (sym (ap (λ (b : Bool). names_it x (if b then [] else record { name = y; place = place; called = called } ∷ [])) l) ∙ f))) ∙ q) where
+      true≢false (sym c ∙ ap (is_covered u names) ((bytes_eq-Decides x y).0 (only (bytes_eq x y) (sym (ap (λ (b : Bool). names_it x (if b then [] else record { name = y; place = place; called = called } ∷ [])) l) ∙ f))) ∙ q) where
         only : (b : Bool) → (b || false) ≡ true → b ≡ true
         only true e = refl
         only false e = e
-uncalled x u names bound called e ss row c k f = true_false (sym (ap is_some k))
+uncalled x u names bound called e ss row c k f = true≢false (sym (ap is_some k))
 
 -- an item that binds nothing
 abbrev is_plain : ItemTree → Bool
@@ -129,13 +122,13 @@ module _ {R : Type 0} (w : R) (x : Bytes) where
   named : (u : Outside) (names bound : List Bytes) (called : Bool) (y : Bytes) (place : ℕ) → Seen x u names bound → Finds x (occurrence bound called y place) (open_name w u names y)
   named u names bound called y place s = record { finds = λ e. at e (among y bound) refl (is_covered u names y) refl } where
     at : names_it x (occurrence bound called y place) ≡ true → (d : Bool) → among y bound ≡ d → (b : Bool) → is_covered u names y ≡ b → occurs x (if is_covered u names y then Name y else Const (Loc Writer w)) ≡ true
-    at e true l b q = absurd (true_false (sym e ∙ ap (λ (b : Bool). names_it x (if b then [] else record { name = y; place = place; called = called } ∷ [])) l))
+    at e true l b q = absurd (true≢false (sym e ∙ ap (λ (b : Bool). names_it x (if b then [] else record { name = y; place = place; called = called } ∷ [])) l))
     at e false l true q = ap (λ (b : Bool). occurs x (if b then Name y else Const (Loc Writer w))) q ∙ only (bytes_eq x y) (sym (ap (λ (b : Bool). names_it x (if b then [] else record { name = y; place = place; called = called } ∷ [])) l) ∙ e) where
       only : (b : Bool) → (b || false) ≡ true → b ≡ true
       only true e = refl
       only false e = e
     at e false l false q =
-        absurd (true_false (sym s.covered ∙ ap (is_covered u names) ((bytes_eq-Decides x y).0 (only (bytes_eq x y) (sym (ap (λ (b : Bool). names_it x (if b then [] else record { name = y; place = place; called = called } ∷ [])) l) ∙ e))) ∙ q)) where
+        absurd (true≢false (sym s.covered ∙ ap (is_covered u names) ((bytes_eq-Decides x y).0 (only (bytes_eq x y) (sym (ap (λ (b : Bool). names_it x (if b then [] else record { name = y; place = place; called = called } ∷ [])) l) ∙ e))) ∙ q)) where
           only : (b : Bool) → (b || false) ≡ true → b ≡ true
           only true e = refl
           only false e = e
@@ -197,7 +190,7 @@ module _ {R : Type 0} (w : R) (x : Bytes) where
 
   procedure_captured : (u : Outside) (names bound : List Bytes) → Seen x u names bound → (p : ProcedureTree) → (among x (captured_by u names p) ≡ true → Finds x (free_procedure bound p) (open_body w (inside u [] (captured_by u names p)) p))
       → Finds x (free_procedure bound p) (open_body w (inside u [] (captured_by u names p)) p)
-  procedure_captured u names bound s p h = record { finds = λ e. (h (captured_has x u names (free_procedure [] p) s.covered (fewer (in_procedure x p) bound [] (λ f. absurd (true_false (sym f))) e))).finds e }
+  procedure_captured u names bound s p h = record { finds = λ e. (h (captured_has x u names (free_procedure [] p) s.covered (fewer (in_procedure x p) bound [] (λ f. absurd (true≢false (sym f))) e))).finds e }
 
   mutual
     pub find_block : (u : Outside) (names bound : List Bytes) → Seen x u names bound → (b : BlockTree) → Finds x (free_block bound b) (open_block w u names b)
@@ -255,9 +248,9 @@ module _ {R : Type 0} (w : R) (x : Bytes) where
     find_item u names bound s (FieldItem o y body place) k = find_field u names bound s y (open_expr w u names o) (free_expr bound false o) (find_expr u names bound s false o) body
     find_item u names bound s (IndexItem a i e place) k = form _ (one (find_expr u names bound s false a) (one (find_expr u names bound s false i) (last (find_expr u names bound s false e))))
     find_item u names bound s (PlainItem e) k = find_expr u names bound s false e
-    find_item u names bound s (LetItem bs place) k = absurd (true_false (sym k))
-    find_item u names bound s (VarItem bs place) k = absurd (true_false (sym k))
-    find_item u names bound s (LetRecItem bs place) k = absurd (true_false (sym k))
+    find_item u names bound s (LetItem bs place) k = absurd (true≢false (sym k))
+    find_item u names bound s (VarItem bs place) k = absurd (true≢false (sym k))
+    find_item u names bound s (LetRecItem bs place) k = absurd (true≢false (sym k))
 
     pub find_field : (u : Outside) (names bound : List Bytes) → Seen x u names bound → (y : Bytes) (o : Term R) (os : List Occurrence) → Finds x os o → (body : FieldTree) → Finds x (os ++ free_field bound body) (open_field w u names y o body)
     find_field u names bound s y o os h (ValueOf e) = form _ (one h (last (find_expr u names bound s false e)))
@@ -303,9 +296,9 @@ module _ {R : Type 0} (w : R) (x : Bytes) where
     pub find_called : (u : Outside) (names bound : List Bytes) → Seen x u names bound → (r : ℕ) (ss : SuffixTrees) → is_called ss ≡ true → Finds x (free_suffixes bound ss) (open_called w u names r ss)
     find_called u names bound s r NoSuffixes k = nothing x _
     find_called u names bound s r (ASuffix (ApplySuffix es place) ss) k = find_suffixes u names bound s (free_exprs bound es) (Form (Apply (builtin_at r)) (open_exprs w u names es)) (form _ (find_exprs u names bound s es)) ss
-    find_called u names bound s r (ASuffix (SelectSuffix y place) ss) k = absurd (true_false (sym k))
-    find_called u names bound s r (ASuffix (InvokeSuffix y es place) ss) k = absurd (true_false (sym k))
-    find_called u names bound s r (ASuffix (IndexSuffix e place) ss) k = absurd (true_false (sym k))
+    find_called u names bound s r (ASuffix (SelectSuffix y place) ss) k = absurd (true≢false (sym k))
+    find_called u names bound s r (ASuffix (InvokeSuffix y es place) ss) k = absurd (true≢false (sym k))
+    find_called u names bound s r (ASuffix (IndexSuffix e place) ss) k = absurd (true≢false (sym k))
 
     pub find_suffix : (u : Outside) (names bound : List Bytes) → Seen x u names bound → (os : List Occurrence) (t : Term R) → Finds x os t → (s : SuffixTree) → Finds x (os ++ free_suffix bound s) (open_suffix w u names t s)
     find_suffix u names bound s os t h (ApplySuffix es place) = form _ (one h (find_exprs u names bound s es))

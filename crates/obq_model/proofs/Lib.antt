@@ -14,6 +14,7 @@ pub mod Naturality
 pub mod Occurring
 pub mod OneCell
 pub mod Opens
+pub mod Options
 pub mod Places
 pub mod Plug
 pub mod PutCommute

@@ -1,7 +1,7 @@
 -- A name that occurs in the term of a tree is covered there: so a closure need capture no other.
 use Rattle.std.specs.Prelude.{Bool, List, None, Option, Some, [], bytes_eq, false, if◌then◌else◌, max, not, refl, true, ℕ, ◌&&◌, ◌++◌, ◌∷◌, ◌≡◌, ◌||◌}
 use Rattle.std.proofs.lemmas.Slice.Eq.{bytes_eq-Decides}
-use Rattle.std.proofs.Common.{inl, inr, ap, sym, ◌∙◌}
+use Rattle.std.proofs.Common.{inl, inr, ap, sym, ◌∙◌, true≢false}
 use Rattle.obq_base.specs.declared.trees.Operator.{Operator}
 use Rattle.obq_base.specs.declared.occurrences.Occurrence.{Occurrence}
 use Rattle.obq_base.specs.Tree.{BlockTree, BlockOf, MaybeBlock, NoBlock, ABlock, ItemTrees, NoItems, AnItem, ItemTree, LetItem, VarItem, LetRecItem, AssignItem, FieldItem, IndexItem, PlainItem, BindTrees, NoBinds, ABind, RecBindTrees, NoRecBinds, ARecBind, ProcedureTree, AProc, FieldTree, ValueOf, MethodOf, AliasOf, ExprTree, IntTree, TextTree, TruthTree, OkTree, NameTree, ProcTree, ArrayTree, ObjectTree, IfTree, LoopTree, ExitTree, ForTree, ForeachTree, TryTree, FinallyTree, RaiseTree, WatchTree, RedirectTree, CloneTree, ChainTree, SuffixedTree, ExprTrees, NoExprs, AnExpr, LinkTrees, NoLinks, ALink, SuffixTree, ApplySuffix, SelectSuffix, InvokeSuffix, IndexSuffix, SuffixTrees, NoSuffixes, ASuffix, ArmTrees, NoArms, AnArm, FieldTrees, NoFields, AField}
@@ -14,7 +14,7 @@ use Rattle.obq_model.specs.Scopes.{Outside, captured_from, captured_of, inside, 
 use Rattle.obq_model.specs.Draft.{called_row}
 use Rattle.obq_model.specs.Opened.{builtin_at, open_arms, open_binds, open_block, open_body, open_called, open_chain, open_expr, open_exprs, open_field, open_if, open_item, open_items, open_maybe, open_maybe_parts, open_members, open_methods, open_name, open_operands, open_suffix, open_suffixes}
 use Rattle.obq_model.specs.Opening.{linked}
-use Rattle.obq_model.proofs.Among.{among_append, either, left_of, right_of, true_false}
+use Rattle.obq_model.proofs.Among.{among_append, either, left_of, right_of}
 
 -- only such names occur in the term, and in the parts, and no closure stands there
 pub record Only {R : Type 0} (P : Bytes → Bool) (t : Term R) : Type 0 where
@@ -26,10 +26,10 @@ pub record OnlyIn {R : Type 0} (P : Bytes → Bool) (ts : Parts R) : Type 0 wher
   pub flat : deepest_of ts ≡ 0
 
 nothing : {R : Type 0} → (P : Bytes → Bool) → OnlyIn {R = R} P End
-nothing P = record { only = λ x e. absurd (true_false (sym e)); flat = refl }
+nothing P = record { only = λ x e. absurd (true≢false (sym e)); flat = refl }
 
 value : {R : Type 0} → (P : Bytes → Bool) (v : Value R) → depth_in v ≡ 0 → Only P (Const v)
-value P v z = record { only = λ x e. absurd (true_false (sym e)); flat = z }
+value P v z = record { only = λ x e. absurd (true≢false (sym e)); flat = z }
 
 one : {R : Type 0} {P : Bytes → Bool} {t : Term R} {ts : Parts R} → Only P t → OnlyIn P ts → OnlyIn P (Part t ts)
 one {R} {P} {t} {ts} h k = record { only = λ x e. elim (either (occurs x t) (occurs_in x ts) e) [ inl f ↦ h.only x f | inr g ↦ k.only x g ]; flat = ap (λ n. max n (deepest_of ts)) h.flat ∙ ap (λ n. max 0 n) k.flat }
@@ -45,13 +45,13 @@ named {R} w u names y = record { only = λ x. at x (is_covered u names y) refl; 
 
   at : (x : Bytes) (b : Bool) → is_covered u names y ≡ b → occurs x (if b then Name y else Const (Loc Writer w)) ≡ true → is_covered u names x ≡ true
   at x true e o = ap (is_covered u names) ((bytes_eq-Decides x y).0 o) ∙ e
-  at x false e o = absurd (true_false (sym o))
+  at x false e o = absurd (true≢false (sym o))
 
 -- a name under binders
 pub uncovered : (x : Bytes) (xs : List Bytes) {R : Type 0} (t : Term R) → occurs x (Under xs t) ≡ true → (among x xs ≡ false) × (occurs x t ≡ true)
 uncovered x xs t e = at (among x xs) refl e where
   at : (b : Bool) → among x xs ≡ b → (not b && occurs x t) ≡ true → (among x xs ≡ false) × (occurs x t ≡ true)
-  at true q e = absurd (true_false (sym e))
+  at true q e = absurd (true≢false (sym e))
   at false q e = (q, e)
 
 under : {R : Type 0} (u : Outside) (names : List Bytes) {xs : List Bytes} {t : Term R} → Only (is_covered u (names ++ xs)) t → Only (is_covered u names) (Under xs t)
@@ -63,19 +63,19 @@ under {R} u names {xs} {t} h = record {
 } where
   drop_false : (a b c : Bool) → b ≡ false → ((a || b) || c) ≡ true → (a || c) ≡ true
   drop_false true b c e h = refl
-  drop_false false true c e h = absurd (true_false e)
+  drop_false false true c e h = absurd (true≢false e)
   drop_false false false c e h = h
 
 -- what is captured is covered
 pub captured_covered : (u : Outside) (names : List Bytes) (us : List Occurrence) (x : Bytes) → among x (captured_of u names us) ≡ true → is_covered u names x ≡ true
-captured_covered u names us x e = from [] us (λ y f. absurd (true_false (sym f))) e where
+captured_covered u names us x e = from [] us (λ y f. absurd (true≢false (sym f))) e where
   from : (acc : List Bytes) (us : List Occurrence) → ((y : Bytes) → among y acc ≡ true → is_covered u names y ≡ true) → among x (captured_from u names acc us) ≡ true → is_covered u names x ≡ true
   from acc [] h e = h x e
   from acc (o ∷ us) h e = from (if is_covered u names o.name && not (among o.name acc) then acc ++ o.name ∷ [] else acc) us (λ y. more y (is_covered u names o.name) refl (among o.name acc)) e where
     added : (y : Bytes) → is_covered u names o.name ≡ true → among y (acc ++ o.name ∷ []) ≡ true → is_covered u names y ≡ true
     added y c f = elim (either (among y acc) (bytes_eq y o.name || false) (sym (among_append y acc (o.name ∷ [])) ∙ f)) [
       | inl g ↦ h y g
-      | inr g ↦ elim (either (bytes_eq y o.name) false g) [ inl q ↦ ap (is_covered u names) ((bytes_eq-Decides y o.name).0 q) ∙ c | inr q ↦ absurd (true_false (sym q)) ]
+      | inr g ↦ elim (either (bytes_eq y o.name) false g) [ inl q ↦ ap (is_covered u names) ((bytes_eq-Decides y o.name).0 q) ∙ c | inr q ↦ absurd (true≢false (sym q)) ]
     ]
 
     more : (y : Bytes) (c : Bool) → is_covered u names o.name ≡ c → (d : Bool) → among y (if c && not d then acc ++ o.name ∷ [] else acc) ≡ true → is_covered u names y ≡ true
@@ -92,7 +92,7 @@ enclosed {R} u names members {params} us {t} h = record {
   flat = h.flat;
 } where
   outer : (x : Bytes) (b : Bool) → b ≡ false → (b || (among x members || among x (captured_of u names us))) ≡ true → (among x members || is_covered u names x) ≡ true
-  outer x true q e = absurd (true_false q)
+  outer x true q e = absurd (true≢false q)
   outer x false q e = elim (either (among x members) (among x (captured_of u names us)) e) [ inl f ↦ left_of (among x members) _ f | inr f ↦ right_of (among x members) _ (captured_covered u names us x f) ]
 
 -- a group's rest and its procedures, under its names
@@ -107,12 +107,12 @@ grouped {R} u names {members} {rest} {group} h k = record {
   flat = ap (λ n. max n (deepest_of group)) h.flat ∙ ap (λ n. max 0 n) k.flat;
 } where
   drop : {c : Bool} (b : Bool) → b ≡ false → (b || c) ≡ true → c ≡ true
-  drop true e h = absurd (true_false e)
+  drop true e h = absurd (true≢false e)
   drop false e h = h
 
   plain : (a b c : Bool) → b ≡ false → ((a || b) || c) ≡ true → (a || c) ≡ true
   plain true b c e h = refl
-  plain false true c e h = absurd (true_false e)
+  plain false true c e h = absurd (true≢false e)
   plain false false c e h = h
 
 linked_only : {R : Type 0} {P : Bytes → Bool} → (op : Operator) (t v : Term R) → Only P t → Only P v → Only P (linked op t v)

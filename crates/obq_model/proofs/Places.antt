@@ -1,10 +1,10 @@
 -- The last place of a name among names.
-use Rattle.std.specs.Prelude.{Bool, List, None, Option, Some, [], bytes_eq, false, if◌then◌else◌, is_some, length, refl, suc, true, unwrap_or, ℕ, ◌+◌, ◌<◌, ◌∷◌, ◌≡◌, ◌||◌}
-use Rattle.std.proofs.Common.{ap, sym, ◌∙◌, arith}
+use Rattle.std.specs.Prelude.{Bool, List, None, Option, Some, [], bytes_eq, false, if◌then◌else◌, is_some, length, refl, suc, true, ℕ, ◌+◌, ◌<◌, ◌∷◌, ◌≡◌, ◌||◌}
+use Rattle.std.proofs.Common.{ap, sym, ◌∙◌, arith, true≢false}
 use Rattle.obq_model.specs.Terms.{Bytes}
 use Rattle.obq_model.specs.Put.{among}
 use Rattle.obq_model.specs.Scopes.{last_place_from}
-use Rattle.obq_model.proofs.Among.{true_false}
+use Rattle.obq_model.proofs.Options.{some_same}
 
 -- the first of two, where there is one
 abbrev pub or_else : {A : Type 0} → Option A → Option A → Option A
@@ -35,11 +35,8 @@ among_place i y (x ∷ xs) =
       joined false None = refl
       joined false (Some n) = refl
 
-pub some_same : (j k : ℕ) → Some j ≡ Some k → j ≡ k
-some_same j k e = ap (λ o. unwrap_or o 0) e
-
 pub place_below : (i : ℕ) (y : Bytes) (xs : List Bytes) (k : ℕ) → last_place_from i None y xs ≡ Some k → k < i + length xs
-place_below i y [] k e = absurd (true_false (sym (ap is_some e)))
+place_below i y [] k e = absurd (true≢false (sym (ap is_some e)))
 place_below i y (x ∷ xs) k e = by_case (bytes_eq y x) (last_place_from (suc i) None y xs) refl (sym (place_found (suc i) (if bytes_eq y x then Some i else None) y xs) ∙ e) (place_below (suc i) y xs) where
   further : (n k : ℕ) → k < suc i + n → k < i + suc n
   further n k l = omega (arith, l)
@@ -51,4 +48,4 @@ place_below i y (x ∷ xs) k e = by_case (bytes_eq y x) (last_place_from (suc i)
       → ((k : ℕ) → last_place_from (suc i) None y xs ≡ Some k → k < suc i + length xs) → k < i + suc (length xs)
   by_case c (Some n) q f ih = further (length xs) k (ih k (q ∙ sym (ap (λ (z : Option ℕ). or_else z (if c then Some i else None)) q) ∙ f))
   by_case true None q f ih = first (length xs) k (some_same i k (sym (ap (λ (z : Option ℕ). or_else z (Some i)) q) ∙ f))
-  by_case false None q f ih = absurd (true_false (sym (ap is_some (sym (ap (λ (z : Option ℕ). or_else z None) q) ∙ f))))
+  by_case false None q f ih = absurd (true≢false (sym (ap is_some (sym (ap (λ (z : Option ℕ). or_else z None) q) ∙ f))))

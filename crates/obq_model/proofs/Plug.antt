@@ -1,6 +1,6 @@
 -- What stands next in a hole is what stands next in the whole, over any references.
-use Rattle.std.specs.Prelude.{Bool, List, None, Option, Some, T, [], false, length, option_map, refl, suc, true, ℕ, ◌++◌, ◌+◌, ◌<◌, ◌∷◌, ◌≡◌}
-use Rattle.std.proofs.Common.{subst, ap, sym, ◌∙◌, arith, length-append}
+use Rattle.std.specs.Prelude.{Bool, List, None, Option, Some, [], false, length, option_map, refl, suc, true, ℕ, ◌++◌, ◌+◌, ◌<◌, ◌∷◌, ◌≡◌}
+use Rattle.std.proofs.Common.{subst, ap, sym, ◌∙◌, arith, length-append, true≢false}
 use Rattle.std.proofs.lemmas.List.{append-nil, append_assoc}
 use Rattle.obq_model.specs.Terms.{Raised, Exn, ExitUp, Mode, Plain, Held, Inner, Value, Kind, Try, Finally, Called, Within, Looping, Counting, EachIn, Choosing, Finishing, Testing, Term, Const, Form, Parts, End, Part}
 use Rattle.obq_model.specs.Exceptions.{raising}
@@ -44,11 +44,6 @@ pub find_fill : {R : Type 0} (eq : R → R → Bool) (a : ℕ) (s : Self R) (k :
     → find eq a s (fill (Pending k before after) t) ≡ through (Pending k before after) (λ v. find_part eq a s k (before ++ v ∷ []) after) (find eq (activations_in a k) (self_in s k) t)
 find_fill eq a s k before after t w =
     operands eq a s k [] before (Part t after) (λ i l. w i (omega arith)) ∙ at_operand eq a s k before t after (w (length before) (omega arith))
-
--- a value in a hole is passed
-pub find_value : {R : Type 0} (eq : R → R → Bool) (a : ℕ) (s : Self R) (k : Kind R) (before : List (Value R)) (after : Parts R) (v : Value R) → IsFrame (Pending k before after)
-    → find eq a s (fill (Pending k before after) (Const v)) ≡ find_part eq a s k (before ++ v ∷ []) after
-find_value eq a s k before after v w = find_fill eq a s k before after (Const v) w
 
 -- what stands next around a part that steps or asks is what stands next in the part
 pub find_plug : {R : Type 0} → FindPlug R
@@ -153,21 +148,18 @@ plug_step eq a s fs t w h =
 
 -- ---- a raising and its nearest stop
 
-true_false : true ≡ false → ⊥
-true_false e = subst T e tt
-
 -- a form that is no stop lets a raising pass
 passed : {R : Type 0} (k : Kind R) (before : List (Value R)) (after : Parts R) (r : Raised) → is_stop k ≡ false → at_raised (Pending k before after) r ≡ Uncaught r
-passed Try before after r e = absurd (true_false e)
-passed Finally before after r e = absurd (true_false e)
-passed Called before after r e = absurd (true_false e)
-passed (Within o m) before after r e = absurd (true_false e)
-passed Looping before after r e = absurd (true_false e)
-passed (Counting i n) before after r e = absurd (true_false e)
-passed (EachIn q i n) before after r e = absurd (true_false e)
-passed (Choosing x) before after r e = absurd (true_false e)
-passed Finishing before after r e = absurd (true_false e)
-passed (Testing o c) before after r e = absurd (true_false e)
+passed Try before after r e = absurd (true≢false e)
+passed Finally before after r e = absurd (true≢false e)
+passed Called before after r e = absurd (true≢false e)
+passed (Within o m) before after r e = absurd (true≢false e)
+passed Looping before after r e = absurd (true≢false e)
+passed (Counting i n) before after r e = absurd (true≢false e)
+passed (EachIn q i n) before after r e = absurd (true≢false e)
+passed (Choosing x) before after r e = absurd (true≢false e)
+passed Finishing before after r e = absurd (true≢false e)
+passed (Testing o c) before after r e = absurd (true≢false e)
 passed _ before after r e = refl
 
 pub passes_all : {R : Type 0} → PassesAll R
@@ -197,7 +189,7 @@ raised_busy {R} (EachIn q i n) before after r e = loop_busy R r
 raised_busy (Choosing x) before after r e = tt
 raised_busy Finishing before after r e = tt
 raised_busy (Testing o c) before after r e = tt
-raised_busy _ before after r e = absurd (true_false (sym e))
+raised_busy _ before after r e = absurd (true≢false (sym e))
 
 pub nearest_stop : {R : Type 0} → NearestStop R
 nearest_stop eq a s fs (Pending k before after) gs r w v u i h =

@@ -1,7 +1,7 @@
 -- Reading with one more value is putting it in.
-use Rattle.std.specs.Prelude.{Bool, List, None, Option, Some, T, bytes_eq, false, if◌then◌else◌, refl, true, ◌≡◌}
+use Rattle.std.specs.Prelude.{Bool, List, None, Option, Some, bytes_eq, false, if◌then◌else◌, refl, true, ◌≡◌}
 use Rattle.std.proofs.lemmas.Slice.Eq.{bytes_eq-Decides}
-use Rattle.std.proofs.Common.{subst, ap, sym, ◌∙◌}
+use Rattle.std.proofs.Common.{ap, sym, ◌∙◌, true≢false}
 use Rattle.obq_model.specs.Terms.{Bytes, Value, Term, Const, Name, Under, Form, Parts, End, Part}
 use Rattle.obq_model.specs.Put.{among, occurrence, put, put_parts}
 use Rattle.obq_model.specs.Reading.{Env, hide, name_or, read, read_parts, or_some, also}
@@ -10,9 +10,6 @@ use Rattle.obq_model.proofs.PutTwice.{occurrence_stays}
 fun_eq : {A B : Type 0} (f g : A → B) → ((x : A) → f x ≡ g x) → f ≡ g
 fun_eq f g h = λ i x. h x i
 
-true_false : true ≡ false → ⊥
-true_false e = subst T e tt
-
 among_same : (names : List Bytes) (x y : Bytes) → bytes_eq x y ≡ true → among x names ≡ among y names
 among_same names x y e = ap (λ z. among z names) ((bytes_eq-Decides x y).0 e)
 
@@ -20,14 +17,14 @@ hide_in : {R : Type 0} → (names : List Bytes) (env : Env R) (x : Bytes) (v : V
 hide_in {R} names env x v h = fun_eq _ _ (λ z. at z (among z names) refl (bytes_eq x z) refl (env z)) where
   at : (z : Bytes) (b : Bool) → among z names ≡ b → (c : Bool) → bytes_eq x z ≡ c → (o : Option (Value R)) → (if b then None else or_some o c v) ≡ (if b then None else o)
   at z true e c f o = refl
-  at z false e true f o = absurd (true_false (sym h ∙ among_same names x z f ∙ e))
+  at z false e true f o = absurd (true≢false (sym h ∙ among_same names x z f ∙ e))
   at z false e false f None = refl
   at z false e false f (Some w) = refl
 
 hide_out : {R : Type 0} → (names : List Bytes) (env : Env R) (x : Bytes) (v : Value R) → among x names ≡ false → also (hide names env) x v ≡ hide names (also env x v)
 hide_out {R} names env x v h = fun_eq _ _ (λ z. at z (among z names) refl (bytes_eq x z) refl (env z)) where
   at : (z : Bytes) (b : Bool) → among z names ≡ b → (c : Bool) → bytes_eq x z ≡ c → (o : Option (Value R)) → or_some (if b then None else o) c v ≡ (if b then None else or_some o c v)
-  at z true e true f o = absurd (true_false (sym (sym h ∙ among_same names x z f ∙ e)))
+  at z true e true f o = absurd (true≢false (sym (sym h ∙ among_same names x z f ∙ e)))
   at z true e false f o = refl
   at z false e c f o = refl
 

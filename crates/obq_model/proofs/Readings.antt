@@ -1,9 +1,9 @@
 -- Readings grow at their end, and pieces have at least one byte.
 use Rattle.std.proofs.Common.{◌≡◌, ℕ, ◌<◌, ◌≤◌, List, [], ◌∷◌, ◌++◌, length, true, ap, arith, length-append}
 use Rattle.obq_base.specs.declared.tokens.Token.{Token}
-use Rattle.obq_model.specs.Tokens.{Lexeme, Spells, word, number, minus, literal, mark, IsOpen, inside, opened, IsBlank, white, remark, IsToken, IsRead, done, blank, token, kind_of, nested_by, token_at}
+use Rattle.obq_model.specs.Tokens.{Lexeme, Spells, word, number, minus, literal, mark, IsBlank, white, remark, IsToken, IsRead, done, blank, token, kind_of, nested_by, token_at}
 use Rattle.obq_model.proofs.Contents.{content_length}
-use Rattle.obq_model.proofs.Comments.{inside_length, comment_length}
+use Rattle.obq_model.proofs.Comments.{comment_length}
 use Rattle.obq_model.proofs.Spellings.{is_key, symbol_is_key}
 
 pub read_blank : {n : ℕ} {ts : List Token} {d e : ℕ} {x y z : List ℕ} → IsRead n ts d x e y → IsBlank y z → IsRead n ts d x e z
@@ -30,7 +30,3 @@ spelled_length (mark (b ∷ w) {r = r} h e) = let n = ap length e in omega (arit
 pub blank_length : {x r : List ℕ} → IsBlank x r → length r < length x
 blank_length (white h) = omega arith
 blank_length (remark c) = comment_length c
-
-open_length : {x r : List ℕ} → IsOpen x r → length r ≤ length x
-open_length (inside h) = inside_length h
-open_length (opened h k) = let m = inside_length h in let n = open_length k in omega arith

@@ -2,13 +2,13 @@
 use Rattle.std.specs.Prelude.{Bool, List, None, Option, Some, [], bytes_eq, false, if◌then◌else◌, length, nat_lt, not, option_map, refl, suc, true, ℕ, ◌+◌, ◌∷◌, ◌≡◌}
 use Rattle.std.specs.List.{prefix_len}
 use Rattle.std.proofs.lemmas.Slice.Eq.{bytes_eq-Decides}
-use Rattle.std.proofs.Common.{subst, ap, sym, ◌∙◌, arith}
+use Rattle.std.proofs.Common.{subst, ap, sym, ◌∙◌, arith, true≢false}
 use Rattle.obq_tables.specs.Tables.{builtins}
 use Rattle.obq_model.specs.Terms.{Bytes, Builtin, Not, Exception, FmtInt, FmtBool, TextLength, TextSub, ArrayNew, ArraySize, PutText, NewCondition, SignalOne, SignalAll, Fork, JoinThread, NetExport, NetImport, ExportEngine, ImportEngine}
 use Rattle.obq_model.specs.Occurrences.{builtin_row}
 use Rattle.obq_model.specs.Opening.{builtin_named}
 use Rattle.obq_model.specs.Opened.{builtin_at}
-use Rattle.obq_model.proofs.Among.{bytes_sym, true_false}
+use Rattle.obq_model.proofs.Among.{bytes_sym}
 
 abbrev All : (Bytes → Type 0) → List Bytes → Type 0
 All P [] = Unit {0}
@@ -35,7 +35,7 @@ no_row x h = ap (λ (n : ℕ). if nat_lt n 18 then Some n else None) (at_end x b
 
 -- one more key that x isn't
 passed : (b : Bool) (v : Builtin) (o p : Option Builtin) → b ≡ false → o ≡ p → (if b then Some v else o) ≡ p
-passed true v o p e k = absurd (true_false e)
+passed true v o p e k = absurd (true≢false e)
 passed false v o p e k = k
 
 no_name : (x : Bytes) → All (λ k. bytes_eq x k ≡ false) builtins → builtin_named x ≡ None

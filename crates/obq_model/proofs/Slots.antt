@@ -1,14 +1,14 @@
 -- The slot of a name is in range, and is the innermost binder of that name.
 use Rattle.std.specs.Prelude.{Bool, List, None, Option, Some, [], bytes_eq, false, if◌then◌else◌, is_some, length, refl, suc, true, ℕ, ◌+◌, ◌<◌, ◌∷◌, ◌≡◌, ◌||◌}
-use Rattle.std.proofs.Common.{ap, sym, ◌∙◌, arith, subst}
+use Rattle.std.proofs.Common.{ap, sym, ◌∙◌, arith, subst, true≢false}
 use Rattle.std.proofs.lemmas.Slice.Eq.{bytes_eq-Decides}
 use Rattle.obq_base.specs.declared.code.Slot.TheVariants as s
 use Rattle.obq_model.specs.CodeLaws.{IsInnermost, IsLast, IsWithin}
 use Rattle.obq_model.specs.Terms.{Bytes}
 use Rattle.obq_model.specs.Put.{among}
 use Rattle.obq_model.specs.Scopes.{Outside, last_place, last_place_from, slot_of, slot_or}
-use Rattle.obq_model.proofs.Among.{true_false}
-use Rattle.obq_model.proofs.Places.{among_place, or_else, place_below, place_found, some_same}
+use Rattle.obq_model.proofs.Options.{some_same}
+use Rattle.obq_model.proofs.Places.{among_place, or_else, place_below, place_found}
 
 -- at its last place stands the name, and it stands at no later one
 pub record IsAt (i : ℕ) (y : Bytes) (xs : List Bytes) (k : ℕ) : Type 0 where
@@ -17,7 +17,7 @@ pub record IsAt (i : ℕ) (y : Bytes) (xs : List Bytes) (k : ℕ) : Type 0 where
   pub last : IsLast place y xs
 
 pub place_last : (i : ℕ) (y : Bytes) (xs : List Bytes) (k : ℕ) → last_place_from i None y xs ≡ Some k → IsAt i y xs k
-place_last i y [] k e = absurd (true_false (sym (ap is_some e)))
+place_last i y [] k e = absurd (true≢false (sym (ap is_some e)))
 place_last i y (x ∷ xs) k e = by_case (bytes_eq y x) refl (last_place_from (suc i) None y xs) refl (sym (place_found (suc i) (if bytes_eq y x then Some i else None) y xs) ∙ e) (place_last (suc i) y xs) where
   by_case : (c : Bool) → bytes_eq y x ≡ c → (o : Option ℕ) → last_place_from (suc i) None y xs ≡ o → or_else (last_place_from (suc i) None y xs) (if c then Some i else None) ≡ Some k
       → ((k : ℕ) → last_place_from (suc i) None y xs ≡ Some k → IsAt (suc i) y xs k) → IsAt i y (x ∷ xs) k
@@ -33,7 +33,7 @@ place_last i y (x ∷ xs) k e = by_case (bytes_eq y x) refl (last_place_from (su
   } where
     here : (i k : ℕ) → i ≡ k → k ≡ i + 0
     here i k e = omega (arith, e)
-  by_case false w None q f ih = absurd (true_false (sym (ap is_some (sym (ap (λ (z : Option ℕ). or_else z None) q) ∙ f))))
+  by_case false w None q f ih = absurd (true≢false (sym (ap is_some (sym (ap (λ (z : Option ℕ). or_else z None) q) ∙ f))))
 
 below : (y : Bytes) (xs : List Bytes) (k : ℕ) → last_place y xs ≡ Some k → k < length xs
 below y xs k e = bare k (length xs) (place_below 0 y xs k e) where

@@ -1,6 +1,6 @@
 -- One table for the codes of all sources.
 use Rattle.std.specs.Prelude.{Bool, List, None, Option, Some, [], false, if◌then◌else◌, is_some, option_and_then, refl, slice_get, suc, true, zero, ℕ, ◌+◌, ◌==◌, ◌∷◌, ◌≡◌}
-use Rattle.std.proofs.Common.{ap, sym, ◌∙◌, arith, subst, inl, inr}
+use Rattle.std.proofs.Common.{ap, sym, ◌∙◌, arith, subst, inl, inr, true≢false}
 use Rattle.std.proofs.lemmas.Bool.{eqb-true}
 use Rattle.obq_base.specs.declared.code.Code.{Code}
 use Rattle.obq_base.specs.declared.code.CodeNo.{CodeNo}
@@ -14,7 +14,6 @@ use Rattle.obq_model.specs.Draft.{Draft, Done, Plain, Both, Closure, Method, Gro
 use Rattle.obq_model.specs.Procedures.{AreMembers, IsMade, Proc, main_proc, proc_at, procs_of}
 use Rattle.obq_model.specs.Resolved.{AreCodes, AreResolved, IsCode, IsNumbered, Resolves, code_at}
 use Rattle.obq_model.specs.Scopes.{Outside}
-use Rattle.obq_model.proofs.Among.{true_false}
 
 -- what one table knows the other one knows
 abbrev pub Wider : (f g : CodeNo → Option Proc) → Type 0
@@ -51,8 +50,8 @@ wider f g w number code p h = record {
 
 numbered : (f : CodeNo → Option Proc) (source first : ℕ) (codes : List Code) (ps : List Proc) → AreCodes f source first codes ps → (k m : ℕ) → m ≡ first + k → (code : Code) → slice_get codes k ≡ Some code
     → (p : Proc) × IsNumbered f (record { source = source; n = m }) code p
-numbered f source first [] [] h zero m e code g = absurd (true_false (sym (ap is_some g)))
-numbered f source first [] [] h (suc k) m e code g = absurd (true_false (sym (ap is_some g)))
+numbered f source first [] [] h zero m e code g = absurd (true≢false (sym (ap is_some g)))
+numbered f source first [] [] h (suc k) m e code g = absurd (true≢false (sym (ap is_some g)))
 numbered f source first (c ∷ codes) (p ∷ ps) h zero m e code g = (p, subst (λ j. IsNumbered f (record { source = source; n = j }) code p) (back first m e) (subst (λ (d : Code). IsNumbered f (record { source = source; n = first }) d p) (same g) h.0)) where
   back : (first m : ℕ) → m ≡ first + 0 → first ≡ m
   back first m e = omega (arith, e)
@@ -68,7 +67,7 @@ numbered f source first (c ∷ codes) [] h k m e code g = absurd h
 unnumbered : (f : CodeNo → Option Proc) (source first : ℕ) (codes : List Code) (ps : List Proc) → AreCodes f source first codes ps → (k : ℕ) → slice_get codes k ≡ None → slice_get ps k ≡ None
 unnumbered f source first [] [] h zero g = refl
 unnumbered f source first [] [] h (suc k) g = refl
-unnumbered f source first (c ∷ codes) (p ∷ ps) h zero g = absurd (true_false (ap is_some g))
+unnumbered f source first (c ∷ codes) (p ∷ ps) h zero g = absurd (true≢false (ap is_some g))
 unnumbered f source first (c ∷ codes) (p ∷ ps) h (suc k) g = unnumbered f source (suc first) codes ps h.1 k g
 unnumbered f source first [] (p ∷ ps) h k g = absurd h
 unnumbered f source first (c ∷ codes) [] h k g = absurd h
@@ -90,8 +89,8 @@ record IsPart (tables : List (List Proc)) (blocks : List Block) (k m : ℕ) (par
   table_is : slice_get tables k ≡ Some resolved.table
 
 part_at : (first : ℕ) (blocks : List Block) (parts : List SourceCode) (h : AreResolved first blocks parts) (k m : ℕ) → m ≡ first + k → (part : SourceCode) → slice_get parts k ≡ Some part → IsPart (tables_of first blocks parts h) blocks k m part
-part_at first [] [] h zero m e part g = absurd (true_false (sym (ap is_some g)))
-part_at first [] [] h (suc k) m e part g = absurd (true_false (sym (ap is_some g)))
+part_at first [] [] h zero m e part g = absurd (true≢false (sym (ap is_some g)))
+part_at first [] [] h (suc k) m e part g = absurd (true≢false (sym (ap is_some g)))
 part_at first (b ∷ blocks) (p ∷ parts) h zero m e part g =
     subst (λ (q : SourceCode). IsPart (h.0.table ∷ tables_of (suc first) blocks parts h.1) (b ∷ blocks) 0 m q) (same g)
     (subst (λ j. IsPart (h.0.table ∷ tables_of (suc first) blocks parts h.1) (b ∷ blocks) 0 j p) (back first m e) (record { block = b; block_is = refl; resolved = h.0; table_is = refl })) where
@@ -111,7 +110,7 @@ part_at first (b ∷ blocks) [] h k m e part g = absurd h
 no_part : (first : ℕ) (blocks : List Block) (parts : List SourceCode) (h : AreResolved first blocks parts) (k : ℕ) → slice_get parts k ≡ None → slice_get (tables_of first blocks parts h) k ≡ None
 no_part first [] [] h zero g = refl
 no_part first [] [] h (suc k) g = refl
-no_part first (b ∷ blocks) (p ∷ parts) h zero g = absurd (true_false (ap is_some g))
+no_part first (b ∷ blocks) (p ∷ parts) h zero g = absurd (true≢false (ap is_some g))
 no_part first (b ∷ blocks) (p ∷ parts) h (suc k) g = no_part (suc first) blocks parts h.1 k g
 no_part first [] (p ∷ parts) h k g = absurd h
 no_part first (b ∷ blocks) [] h k g = absurd h
@@ -121,7 +120,7 @@ joins : (tables : List (List Proc)) (source : ℕ) (table : List Proc) → slice
 joins tables source table e number p q = at (number.source == source) refl q where
   at : (b : Bool) → (number.source == source) ≡ b → (if b then slice_get table number.n else None) ≡ Some p → proc_at tables number ≡ Some p
   at true k f = ap (λ (o : Option (List Proc)). option_and_then (λ (t : List Proc). slice_get t number.n) o) (ap (slice_get tables) (eqb-true number.source source k) ∙ e) ∙ f
-  at false k f = absurd (true_false (sym (ap is_some f)))
+  at false k f = absurd (true≢false (sym (ap is_some f)))
 
 pub is_table : (blocks : List Block) (parts : List SourceCode) (h : AreResolved 0 blocks parts) → IsTable (proc_at (tables_of 0 blocks parts h)) blocks parts
 is_table blocks parts h = record {

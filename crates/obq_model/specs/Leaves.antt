@@ -1,6 +1,6 @@
 -- The leaves of a tree: the names that occur in it, its integers and its texts, each as the kind of a token, at its place. A name that is
 -- bound, a field's name and a parameter are no leaves.
-use Rattle.std.specs.Prelude.{List, [], length, map, true, ℕ, ◌∷◌, ◌≡◌, ◌≤◌}
+use Rattle.std.specs.Prelude.{List, [], length, true, ℕ, ◌∷◌, ◌≡◌, ◌≤◌}
 use Rattle.obq_base.specs.declared.limits.TheConstants.{TEXT_LIMIT}
 use Rattle.obq_base.specs.declared.tokens.TokenKind.{TokenKind}
 use Rattle.obq_base.specs.declared.tokens.TokenKind.TheVariants as k

@@ -4,6 +4,3 @@
 mod namer;
 
 pub use namer::Namer;
-
-#[cfg(test)]
-mod tests;

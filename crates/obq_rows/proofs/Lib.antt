@@ -18,3 +18,4 @@ pub mod SpanEvents
 pub mod ReadBack
 pub mod JournalTexts
 pub mod Slips
+pub mod SmallWorlds

@@ -4,6 +4,3 @@
 mod mutex;
 
 pub use mutex::{Entered, Touch, enter, leave, may_touch};
-
-#[cfg(test)]
-mod tests;

@@ -7,6 +7,7 @@ use Rattle.obq_model.specs.Step.{Self, Again}
 use Rattle.obq_model.specs.Config.{ThreadState}
 use Rattle.obq_model.specs.Effect.{in_line, line_of}
 use Rattle.obq_model.specs.Cells.{again_row}
+use Rattle.obq_model.proofs.Options.{not_both}
 use Rattle.obq_stands.specs.World.{with_at, Ref, Born, Heap, Memory, Parked, Ending, Idle, Ends}
 use Rattle.obq_stands.specs.Stands.{Agrees, Place, Nowhere, Absent, At, InLine, WaitsAt, EndedAt, IsIn, HasPlace}
 use Rattle.obq_stands.specs.Over.{Waits, RetakeWaits}
@@ -26,9 +27,6 @@ some_one a b e = cc e
 some_pair : (s : Sleep) (o q o2 q2 : Ref) → s ≡ Some (o, q) → s ≡ Some (o2, q2) → (o ≡ o2) × (q ≡ q2)
 some_pair s o q o2 q2 e f = (some_one o o2 (ap (option_map (λ (x : Ref × Ref). x.0)) (sym e ∙ f)), some_one q q2 (ap (option_map (λ (x : Ref × Ref). x.1)) (sym e ∙ f)))
 
-none_some : (s : Sleep) (p : Ref × Ref) → s ≡ None → s ≡ Some p → ⊥
-none_some s p e f = cc (e, f)
-
 -- ---- thread t is awake before and after a change that keeps the lines, or it wakes up
 
 pub awake_keeps : (h h2 : Heap) (states states2 : ℕ → Option ThreadState) (pl pl2 : ℕ → Place) (t : ℕ) → SameLines h h2 → ((u : ℕ) → (u ≡ t → ⊥) → states2 u ≡ states u) → ((u : ℕ) → (u ≡ t → ⊥) → pl2 u ≡ pl u)
@@ -43,7 +41,7 @@ awake_keeps h h2 states states2 pl pl2 t sl others places aw s =
     }
   where
     not_t : (u : ℕ) (p : Ref × Ref) → with_at s.sleep t None u ≡ Some p → u ≡ t → ⊥
-    not_t u p e same = none_some (with_at s.sleep t None t) p (with_at_same s.sleep t None) (ap (with_at s.sleep t None) (sym same) ∙ e)
+    not_t u p e same = not_both (with_at s.sleep t None t) p (with_at_same s.sleep t None) (ap (with_at s.sleep t None) (sym same) ∙ e)
 
     old : (u : ℕ) (p : Ref × Ref) → (u ≡ t → ⊥) → with_at s.sleep t None u ≡ Some p → s.sleep u ≡ Some p
     old u p ne e = sym (with_at_other s.sleep t None u ne) ∙ e
@@ -131,7 +129,7 @@ lines_up_keeps h h2 states states2 pl t o q y here is later others after s =
     by_asleep u o2 q2 e (inr ne) = asleep_later h h2 (states u) (states2 u) o2 q2 later (others u ne) (s.asleep u o2 q2 (old u (o2, q2) ne e))
 
     by_awake : (u : ℕ) → with_at s.sleep t (Some (o, q)) u ≡ None → ((u ≡ t) ⊎ (u ≡ t → ⊥)) → (a b : ℕ) → Sleeps (states2 u) a b → ⊥
-    by_awake u e (inl same) a b k = none_some (with_at s.sleep t (Some (o, q)) u) (o, q) e (rw same (with_at_same s.sleep t (Some (o, q))))
+    by_awake u e (inl same) a b k = not_both (with_at s.sleep t (Some (o, q)) u) (o, q) e (rw same (with_at_same s.sleep t (Some (o, q))))
     by_awake u e (inr ne) a b k = s.awake u (sym (with_at_other s.sleep t (Some (o, q)) u ne) ∙ e) a b (subst (λ z. Sleeps z a b) (others u ne) k)
 
     by_there : (u : ℕ) (o2 q2 : Ref) → with_at s.sleep t (Some (o, q)) u ≡ Some (o2, q2) → ((u ≡ t) ⊎ (u ≡ t → ⊥)) → (z : Born) × (h2 q2 ≡ Some z)
@@ -175,7 +173,7 @@ signal_keeps h f g h2 states states2 pl pl2 t u us o q y here first is later oth
     }
   where
     not_t : (v : ℕ) (p : Ref × Ref) → with_at s.sleep t None v ≡ Some p → v ≡ t → ⊥
-    not_t v p e same = none_some (with_at s.sleep t None t) p (with_at_same s.sleep t None) (ap (with_at s.sleep t None) (sym same) ∙ e)
+    not_t v p e same = not_both (with_at s.sleep t None t) p (with_at_same s.sleep t None) (ap (with_at s.sleep t None) (sym same) ∙ e)
 
     old : (v : ℕ) (p : Ref × Ref) → (v ≡ t → ⊥) → with_at s.sleep t None v ≡ Some p → s.sleep v ≡ Some p
     old v p ne e = sym (with_at_other s.sleep t None v ne) ∙ e

@@ -4,11 +4,12 @@ use Rattle.std.proofs.Common.{inl, inr, ap, sym, ◌∙◌, subst, arith, eqb}
 use Rattle.obq_model.specs.Terms.{Thread, Term, Const}
 use Rattle.obq_model.specs.Step.{plug}
 use Rattle.obq_model.specs.Config.{Config}
-use Rattle.obq_stands.specs.World.{with_at, at2, Ref, PendingCall, Slot, Suspended, Request, Reply, Ending, World}
+use Rattle.obq_stands.specs.World.{with_at, at2, Ref, Slot, Suspended, Request, Reply, Ending, World}
 use Rattle.obq_stands.specs.Stands.{Stands, Table}
 use Rattle.obq_stands.specs.Events.{with_window, moved, calling, answering, first_slot, Steps, Acted, Forks, Finishes, Asks, Serves, Enters, Holds, Returns, Resumes}
 use Rattle.obq_stands.specs.Over.{JoinWaits, AtHome, HomesKept, HomesBegin, JoinAtHome}
 use Rattle.obq_stands.proofs.Update.{test_same, with_at_same, with_at_other, at2_cases}
+use Rattle.obq_model.proofs.Options.{not_both, some_none}
 use Rattle.obq_model.proofs.Slices.{get_below}
 use Rattle.obq_stands.proofs.Moves.{out_running, out_packet, endings}
 use Rattle.obq_stands.proofs.Abroad.{resumed_by}
@@ -16,17 +17,14 @@ use Rattle.obq_stands.proofs.Abroad.{resumed_by}
 some_one : {X : Type 0} (z : Option X) (a b : X) → z ≡ Some a → z ≡ Some b → a ≡ b
 some_one z a b e f = cc (e, f)
 
-none_some : {X : Type 0} (z : Option X) (a : X) → z ≡ None → z ≡ Some a → ⊥
-none_some z a e f = cc (e, f)
-
-below_other : (u n : ℕ) → u < n → u ≡ n → ⊥
+pub below_other : (u n : ℕ) → u < n → u ≡ n → ⊥
 below_other u n l e = absurd (omega arith)
 
 more : (u n : ℕ) → u < n → u < suc n
 more u n l = omega arith
 
 -- a thread in a table is one that is there
-running_below : (turns : ℕ) (w : World) (c : Config) (s t : ℕ) (slot : Slot) → Stands turns w c → w.running s t ≡ Some slot → t < w.threads
+pub running_below : (turns : ℕ) (w : World) (c : Config) (s t : ℕ) (slot : Slot) → Stands turns w c → w.running s t ≡ Some slot → t < w.threads
 running_below turns w c s t slot st is = let goes = (out_running turns w c s t slot st is).1 in subst (λ n. t < n) st.counted (get_below c.threads t _ goes.here)
 
 ended_below : (turns : ℕ) (w : World) (c : Config) (s t : ℕ) (e : Ending) → Stands turns w c → w.ended s t ≡ Some e → t < w.threads
@@ -48,7 +46,7 @@ stopped : (r : ℕ → ℕ → Option Slot) (home : ℕ → ℕ) (s t : ℕ) →
 stopped r home s t old a u z e none = by (at2_cases r s t None a u)
   where
     by : ((a ≡ s) × (u ≡ t) × (at2 r s t None a u ≡ None)) ⊎ ((a ≡ s → u ≡ t → ⊥) × (at2 r s t None a u ≡ r a u)) → a ≡ home u
-    by (inl q) = absurd (none_some (at2 r s t None a u) z q.2 e)
+    by (inl q) = absurd (not_both (at2 r s t None a u) z q.2 e)
     by (inr q) = old a u z (sym q.1 ∙ e) none
 
 -- what an event that takes a packet leaves
@@ -119,9 +117,6 @@ homes_kept trees turns w x home inv h (Enters _ w1 a b t k used depth self op ki
     let q = out_packet turns w inv.config a b (Request t k used depth self op) w1 inv.stands takes in
     let g = same_home w w1 home q.running q.pending q.ended q.threads h in
     (home, record { runs = ran w1.running home b t (answering a k used depth self z) g.runs (λ none. absurd (some_none (record { site = a; number = k }) none)); pends = g.pends; known = g.known; ends = g.ends }, λ v l. refl)
-  where
-    some_none : (c : PendingCall) → Some c ≡ None → ⊥
-    some_none c e = cc e
 homes_kept trees turns w x home inv h (Holds _ w1 a b t k used depth self op takes) =
     let q = out_packet turns w inv.config a b (Request t k used depth self op) w1 inv.stands takes in
     let g = same_home w w1 home q.running q.pending q.ended q.threads h in
@@ -147,7 +142,7 @@ homes_kept trees turns w x home inv h (Resumes _ w1 a b t k used o e op hs takes
     old c j z i = by (at2_cases w1.pending b k None c j)
       where
         by : (((c ≡ b) × (j ≡ k) × (at2 w1.pending b k None c j ≡ None)) ⊎ ((c ≡ b → j ≡ k → ⊥) × (at2 w1.pending b k None c j ≡ w1.pending c j))) → w1.pending c j ≡ Some z
-        by (inl q) = absurd (none_some (at2 w1.pending b k None c j) z q.2 i)
+        by (inl q) = absurd (not_both (at2 w1.pending b k None c j) z q.2 i)
         by (inr q) = sym q.1 ∙ i
 
 pub homes_begin : HomesBegin
@@ -168,4 +163,4 @@ join_at_home w home t u s h none = JoinWaits u (λ b. by b (w.ended b u) refl)
   where
     by : (b : ℕ) (z : Option Ending) → w.ended b u ≡ z → z ≡ None
     by b None e = refl
-    by b (Some x) e = absurd (none_some (w.ended b u) x (ap (λ n. w.ended n u) (h.ends b u x e) ∙ none) e)
+    by b (Some x) e = absurd (not_both (w.ended b u) x (ap (λ n. w.ended n u) (h.ends b u x e) ∙ none) e)

@@ -5,7 +5,6 @@ use Rattle.obq_model.specs.Terms.{LocKind, Term}
 use Rattle.obq_model.specs.Store.{Cell, Store}
 use Rattle.obq_model.specs.Config.{Running, ThreadState, Config}
 use Rattle.obq_model.specs.Maps.{map_term, map_cell}
-use Rattle.obq_model.specs.Leaves.{AreBounded}
 use Rattle.obq_laws.specs.Known.{Places, Threads, HasKind, IsPlace, Counted, Numbered, IsKnown, IsKnownCell, IsKnownOperation, IsKnownExecution, AreKnownCells, AreKnownThreads}
 use Rattle.obq_laws.specs.Turns.{state_of}
 use Rattle.obq_laws.proofs.KnownReplay.{references_law, next_is_known}
@@ -50,10 +49,10 @@ next_known trees turns w t op i next =
     let m : Memory = w.memory in
     let f : Ref → ℕ = reading m 0 in
     let k = next_in turns w c t op i.stands next in
-    let known : IsKnownOperation (IsPlace c.store) (Counted (AreBounded trees) c.threads) k.read = next_is_known trees turns w.journal c t k.used k.term k.read k.frames i.replays k.here k.found in
-    let mapped = subst (IsKnownOperation (IsPlace c.store) (Counted (AreBounded trees) c.threads)) (k.one f (reading_agrees m c.store i.stands.memory 0)) known in
-    let back : IsKnownOperation (IsCellOf m.heap) (Counted (AreBounded trees) c.threads) k.asked = operation_back f (IsPlace c.store) (IsCellOf m.heap) (Counted (AreBounded trees) c.threads) (read_back m c.store i.stands.memory) k.asked mapped in
-    (k.asked, k.is, subst (λ n. IsKnownOperation (IsCellOf m.heap) (Numbered (AreBounded trees) n) k.asked) i.stands.counted back)
+    let known : IsKnownOperation (IsPlace c.store) (Counted trees c.threads) k.read = next_is_known trees turns w.journal c t k.used k.term k.read k.frames i.replays k.here k.found in
+    let mapped = subst (IsKnownOperation (IsPlace c.store) (Counted trees c.threads)) (k.one f (reading_agrees m c.store i.stands.memory 0)) known in
+    let back : IsKnownOperation (IsCellOf m.heap) (Counted trees c.threads) k.asked = operation_back f (IsPlace c.store) (IsCellOf m.heap) (Counted trees c.threads) (read_back m c.store i.stands.memory) k.asked mapped in
+    (k.asked, k.is, subst (λ n. IsKnownOperation (IsCellOf m.heap) (Numbered trees n) k.asked) i.stands.counted back)
 
 known_get : (L : Places ℕ) (T : Threads) (cs : List (Cell ℕ)) (k : ℕ) (c : Cell ℕ) → AreKnownCells L T cs → slice_get cs k ≡ Some c → IsKnownCell L T c
 known_get L T [] k c h e = absurd (cc e)
@@ -65,10 +64,10 @@ cell_known trees turns w r x i here =
     let c : Config = i.config in
     let m : Memory = w.memory in
     let f : Ref → ℕ = reading m 0 in
-    let known : IsKnownCell (IsPlace c.store) (Counted (AreBounded trees) c.threads) (map_cell f x.cell) =
-    known_get (IsPlace c.store) (Counted (AreBounded trees) c.threads) c.store.cells x.born (map_cell f x.cell) (references_law trees turns w.journal c i.replays).0.0 (i.stands.memory.cells r x here f (reading_agrees m c.store i.stands.memory 0)) in
-    let back : IsKnownCell (IsCellOf m.heap) (Counted (AreBounded trees) c.threads) x.cell = cell_back f (IsPlace c.store) (IsCellOf m.heap) (Counted (AreBounded trees) c.threads) (read_back m c.store i.stands.memory) x.cell known in
-    subst (λ n. IsKnownCell (IsCellOf m.heap) (Numbered (AreBounded trees) n) x.cell) i.stands.counted back
+    let known : IsKnownCell (IsPlace c.store) (Counted trees c.threads) (map_cell f x.cell) =
+    known_get (IsPlace c.store) (Counted trees c.threads) c.store.cells x.born (map_cell f x.cell) (references_law trees turns w.journal c i.replays).0.0 (i.stands.memory.cells r x here f (reading_agrees m c.store i.stands.memory 0)) in
+    let back : IsKnownCell (IsCellOf m.heap) (Counted trees c.threads) x.cell = cell_back f (IsPlace c.store) (IsCellOf m.heap) (Counted trees c.threads) (read_back m c.store i.stands.memory) x.cell known in
+    subst (λ n. IsKnownCell (IsCellOf m.heap) (Numbered trees n) x.cell) i.stands.counted back
 
 known_thread : (L : Places ℕ) (T : Threads) (ts : List ThreadState) (t used : ℕ) (u : Term ℕ) → AreKnownThreads L T ts → slice_get ts t ≡ Some (state_of (Running u) used) → IsKnown L T u
 known_thread L T [] t used u h e = absurd (cc e)
@@ -82,7 +81,7 @@ window_known trees turns w s t slot i is =
     let f : Ref → ℕ = reading m 0 in
     let a : Agrees f m.heap = reading_agrees m c.store i.stands.memory 0 in
     let goes = (out_running turns w c s t slot i.stands is).1 in
-    let known : IsKnown (IsPlace c.store) (Counted (AreBounded trees) c.threads) goes.term = known_thread (IsPlace c.store) (Counted (AreBounded trees) c.threads) c.threads t slot.used goes.term (references_law trees turns w.journal c i.replays).1 goes.here in
-    let mapped = known_hole (IsPlace c.store) (Counted (AreBounded trees) c.threads) (around f goes.reads.links) (map_term f slot.segment.window) (subst (IsKnown (IsPlace c.store) (Counted (AreBounded trees) c.threads)) (goes.reads.same f a) known) in
-    let back : IsKnown (IsCellOf m.heap) (Counted (AreBounded trees) c.threads) slot.segment.window = known_back f (IsPlace c.store) (IsCellOf m.heap) (Counted (AreBounded trees) c.threads) (read_back m c.store i.stands.memory) slot.segment.window mapped in
-    subst (λ n. IsKnown (IsCellOf m.heap) (Numbered (AreBounded trees) n) slot.segment.window) i.stands.counted back
+    let known : IsKnown (IsPlace c.store) (Counted trees c.threads) goes.term = known_thread (IsPlace c.store) (Counted trees c.threads) c.threads t slot.used goes.term (references_law trees turns w.journal c i.replays).1 goes.here in
+    let mapped = known_hole (IsPlace c.store) (Counted trees c.threads) (around f goes.reads.links) (map_term f slot.segment.window) (subst (IsKnown (IsPlace c.store) (Counted trees c.threads)) (goes.reads.same f a) known) in
+    let back : IsKnown (IsCellOf m.heap) (Counted trees c.threads) slot.segment.window = known_back f (IsPlace c.store) (IsCellOf m.heap) (Counted trees c.threads) (read_back m c.store i.stands.memory) slot.segment.window mapped in
+    subst (λ n. IsKnown (IsCellOf m.heap) (Numbered trees n) slot.segment.window) i.stands.counted back

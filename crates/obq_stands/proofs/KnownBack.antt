@@ -1,7 +1,7 @@
 -- What is known of terms in the store is known of them over references.
 use Rattle.std.specs.Prelude.{List, [], length, map, refl, suc, ◌∷◌, ◌≡◌, ◌≤◌}
 use Rattle.std.proofs.Common.{subst, ap, sym, ◌∙◌}
-use Rattle.obq_model.specs.Terms.{LocKind, Object, Array, Variable, Writer, Condition, Engine, Value, Int, Truth, Okay, Text, Exc, Thread, Closure, Member, Loc, FieldBody, IsValue, IsMethod, IsAlias, Fields, Bare, Field, Kind, Read, Within, Counting, EachAt, EachIn, Cloning, Testing, Lined, Out, Term, Const, Name, Under, Form, Parts, End, Part}
+use Rattle.obq_model.specs.Terms.{LocKind, Object, Array, Variable, Writer, Condition, Engine, Value, Int, Truth, Okay, Text, Exc, Thread, Closure, Member, Loc, FieldBody, IsValue, IsMethod, IsAlias, Fields, Bare, Field, Kind, MakeObject, Read, Raising, Within, Counting, EachAt, EachIn, Choosing, Unmet, Cloning, Testing, Lined, Out, Term, Const, Name, Under, Form, Parts, End, Part}
 use Rattle.obq_model.specs.Store.{Cell, ObjectCell, ArrayCell, VariableCell, WriterCell, ConditionCell, EngineCell}
 use Rattle.obq_model.specs.Step.{After, Itself, Entered, Offered, Operation, New, Get, CallMethod, Leave, Set, Copy, RedirectTo, GetItem, GetSize, EachSize, EachItem, SetItem, ReadVariable, SetVariable, Write, ForkOff, JoinWith, LineUp, GiveUp, Again, Signal, Broadcast, Export, Import, RunEngine, Frame, Pending, values_before, plug}
 use Rattle.obq_model.specs.Maps.{map_value, map_body, map_fields, map_kind, map_term, map_parts, map_cell, map_after, map_operation}
@@ -39,11 +39,15 @@ mutual
   value_back f L M T b (Loc kind r) h = b kind r h
 
   kind_back : {R S : Type 0} (f : R → S) (L : Places S) (M : Places R) (T : Threads) → Back f L M → (k : Kind R) → IsKnownKind L T (map_kind f k) → IsKnownKind M T k
+  kind_back f L M T b (MakeObject flags shape) h = h
   kind_back f L M T b (Read l) h = b Variable l h
   kind_back f L M T b (Within o m) h = b Object o h
   kind_back f L M T b (Counting i n) h = h
   kind_back f L M T b (EachAt r i n) h = b Array r h
   kind_back f L M T b (EachIn r i n) h = b Array r h
+  kind_back f L M T b (Raising r) h = h
+  kind_back f L M T b (Choosing x) h = h
+  kind_back f L M T b (Unmet x) h = h
   kind_back f L M T b (Cloning flags fields rest) h = (fields_back f L M T b fields h.0, objects_back f L M b rest h.1)
   kind_back f L M T b (Testing o c) h = (b Object o h.0, b Condition c h.1)
   kind_back f L M T b (Lined o c) h = (b Object o h.0, b Condition c h.1)
@@ -111,8 +115,8 @@ operation_back f L M T b (GiveUp o c guard) h = (b Object o h.0, b Condition c h
 operation_back f L M T b (Again o c guard) h = (b Object o h.0, b Condition c h.1, known_back f L M T b guard h.2)
 operation_back f L M T b (Signal c) h = b Condition c h
 operation_back f L M T b (Broadcast c) h = b Condition c h
-operation_back f L M T b (Export x v) h = value_back f L M T b v h
-operation_back f L M T b (Import x engine) h = tt
+operation_back f L M T b (Export x v) h = (h.0, value_back f L M T b v h.1)
+operation_back f L M T b (Import x engine) h = h
 operation_back f L M T b (RunEngine e v) h = (b Engine e h.0, value_back f L M T b v h.1, subst HasOneParameter (map_params f v) h.2)
 
 -- the part in a hole is known where the whole is

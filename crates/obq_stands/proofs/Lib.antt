@@ -39,3 +39,10 @@ pub mod Reports
 pub mod KnownBack
 pub mod Known
 pub mod WatchHomes
+pub mod PendingCalls
+pub mod Entered
+pub mod CellsThere
+pub mod BareFrames
+pub mod SegmentTrails
+pub mod TrailsKept
+pub mod TrailEvents

@@ -9,7 +9,6 @@ use Rattle.obq_model.specs.Config.{Config}
 use Rattle.obq_model.specs.Effect.{line_of, in_line}
 use Rattle.obq_model.specs.OneCell.{owner_of}
 use Rattle.obq_model.specs.Replay.{output, report}
-use Rattle.obq_model.specs.Leaves.{AreBounded}
 use Rattle.obq_laws.specs.Known.{Numbered, location_kind, IsKnownCell, IsKnownOperation, IsKnown}
 use Rattle.obq_laws.specs.Lines.{count_in}
 use Rattle.obq_laws.specs.Locality.{needs_owner}
@@ -74,17 +73,17 @@ IsCellOf h kind r = (x : Born) × (h r ≡ Some x) × (location_kind x.cell ≡ 
 abbrev pub NextKnown : Type 0
 NextKnown =
     (trees : List BlockTree) (turns : ℕ) (w : World) (t : ℕ) (op : Operation Ref) → StandsFor trees turns w → IsNext w t op
-    → (asked : Operation Ref) × ((op ≡ asked) ⊎ (op ≡ wire asked)) × IsKnownOperation (IsCellOf w.memory.heap) (Numbered (AreBounded trees) w.threads) asked
+    → (asked : Operation Ref) × ((op ≡ asked) ⊎ (op ≡ wire asked)) × IsKnownOperation (IsCellOf w.memory.heap) (Numbered trees w.threads) asked
 
 -- so in what each cell holds, and no array is too long
 abbrev pub CellKnown : Type 0
-CellKnown = (trees : List BlockTree) (turns : ℕ) (w : World) (r : Ref) (x : Born) → StandsFor trees turns w → w.memory.heap r ≡ Some x → IsKnownCell (IsCellOf w.memory.heap) (Numbered (AreBounded trees) w.threads) x.cell
+CellKnown = (trees : List BlockTree) (turns : ℕ) (w : World) (r : Ref) (x : Born) → StandsFor trees turns w → w.memory.heap r ≡ Some x → IsKnownCell (IsCellOf w.memory.heap) (Numbered trees w.threads) x.cell
 
 -- so in each window that runs
 abbrev pub WindowKnown : Type 0
 WindowKnown =
     (trees : List BlockTree) (turns : ℕ) (w : World) (s t : ℕ) (slot : Slot) → StandsFor trees turns w → w.running s t ≡ Some slot
-    → IsKnown (IsCellOf w.memory.heap) (Numbered (AreBounded trees) w.threads) slot.segment.window
+    → IsKnown (IsCellOf w.memory.heap) (Numbered trees w.threads) slot.segment.window
 
 -- ---- cells that stay, and the sites' writers
 

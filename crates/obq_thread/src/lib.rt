@@ -7,6 +7,3 @@ mod threads;
 
 pub use segments::{Ended, Segment, Suspended};
 pub use threads::Threads;
-
-#[cfg(test)]
-mod tests;

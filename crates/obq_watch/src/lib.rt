@@ -6,6 +6,3 @@ mod retake;
 
 pub use lines::{broadcast, line_up, signal};
 pub use retake::{Retaken, again, give_up};
-
-#[cfg(test)]
-mod tests;

@@ -1,6 +1,6 @@
 -- What acts on one cell do at a window's form is what their rows do, and it is complete.
 use Rattle.std.specs.Prelude.{Bool, List, None, Option, Some, [], bytes_eq, codes, false, if◌then◌else◌, is_some, length, nat_lt, negsuc, option_map, pos, refl, slice_get, slice_set, suc, true, zero, ℕ, ℤ, ◌++◌, ◌==◌, ◌∷◌, ◌≡◌}
-use Rattle.std.proofs.Common.{ap, subst, sym, ◌∙◌}
+use Rattle.std.proofs.Common.{ap, subst, sym, ◌∙◌, true≢false}
 use Rattle.std.proofs.lemmas.Bool.{eqb-true}
 use Rattle.obq_base.specs.declared.acts.ActKind.{ActKind}
 use Rattle.obq_base.specs.declared.trees.Flags.{Flags}
@@ -8,18 +8,17 @@ use Rattle.obq_model.specs.Cells.{cell_row, is_clear, is_refused, mode_for, owne
 use Rattle.obq_model.specs.Procedures.{Proc}
 use Rattle.obq_model.specs.Step.{Needs, Operation, Self, activations_at, find, is_call_limit}
 use Rattle.obq_model.specs.Terms.{Bytes, Exn, Object, Term}
-use Rattle.obq_model.proofs.Among.{true_false}
 use Rattle.obq_windows.specs.Acts.{AnswerMethod, CompleteAnswer, HasParameters, PlainAnswer, Takes}
 use Rattle.obq_windows.specs.Agrees.{Agrees}
 use Rattle.obq_windows.specs.Complete.{AllComplete, CompleteAfter, CompleteBody, CompleteFields, CompleteFocus, CompleteOperation, IsComplete}
 use Rattle.obq_windows.specs.Moves.{act_ends, tree_refused, with_a_parameter}
-use Rattle.obq_windows.specs.Rows.{CompleteLeft, CompleteOutcome, PlainArray, PlainCell, PlainCondition, PlainEnds, PlainEngine, PlainObject, PlainOutcome, PlainVariable, PlainWaits, PlainWriter, RowsComplete, RowsRead, StandsFor, answer_raises, get_plain, invoke_plain, is_plain_alias, item_plain, line_plain, object_plain, plain_aliased, plain_field, plain_item_at, plain_items, plain_owned, plain_row, plain_value, read_cell, read_outcome, set_here_plain, set_item_plain, set_plain, set_target, set_variable_plain, takes_count, with_plain_field, write_plain}
+use Rattle.obq_windows.specs.Rows.{ActsRead, CompleteLeft, CompleteOutcome, PlainArray, PlainCell, PlainCondition, PlainEnds, PlainEngine, PlainObject, PlainOutcome, PlainVariable, PlainWaits, PlainWriter, RowAnswered, RowsComplete, RowsRead, StandsFor, answer_raises, get_plain, invoke_plain, is_plain_alias, item_plain, line_plain, object_plain, plain_aliased, plain_field, plain_item_at, plain_items, plain_owned, plain_row, plain_value, read_cell, read_outcome, set_here_plain, set_item_plain, set_plain, set_target, set_variable_plain, takes_count, with_plain_field, write_plain}
 use Rattle.obq_windows.specs.Trees.{AliasBody, Kept, KeptRaising, KeptValue, MethodBody, PlainAgain, PlainBody, PlainBroadcast, PlainCloning, PlainEachItem, PlainEachSize, PlainExport, PlainField, PlainForkOff, PlainGet, PlainGiveUp, PlainImport, PlainInvoke, PlainItemOf, PlainJoin, PlainLeave, PlainLineUp, PlainNewArray, PlainNewCondition, PlainNewEngine, PlainNewVariable, PlainOperation, PlainRead, PlainRedirect, PlainRunEngine, PlainSetAlias, PlainSetItem, PlainSetMethod, PlainSetValue, PlainSetVariable, PlainSignal, PlainSize, PlainWrite, TreeAct, TreeFocus, ValueBody, field_of, frames_of, kind_of, read_operation, scope_after, term_of}
 use Rattle.obq_windows.specs.Values.{ClosureValue, ExceptionValue, IntValue, LocationValue, OkayValue, PlainValue, Table, TextValue, ThreadValue, TruthValue, count_in, proc_of, read_value, tree_params}
 use Rattle.obq_windows.specs.Windows.{Store, node_params}
 use Rattle.obq_windows.proofs.Acts.{act_asks, act_goes_on}
 use Rattle.obq_windows.proofs.AlikeCalls.{params_same}
-use Rattle.obq_windows.proofs.Answering.{AtAct, at_act}
+use Rattle.obq_windows.proofs.Answering.{AtAct, answers_read, at_act}
 use Rattle.obq_windows.proofs.Depths.{MaybeComplete}
 use Rattle.obq_windows.proofs.Rows.{ClosedMaybe, body_complete, refused_closed, row_is}
 use Rattle.obq_windows.proofs.Whole.{made_of}
@@ -28,30 +27,30 @@ use Rattle.obq_windows.proofs.Whole.{made_of}
 takes_of : {R : Type 0} → (T : Table R) (f : PlainValue R) (vs : List (PlainValue R)) → takes_count (tree_params T f) (length vs) ≡ true → Takes T f vs
 takes_of {R} T (ClosureValue thread count group index captured) vs e = at (proc_of T group index) e where
   at : (o : Option Proc) → takes_count (count_in o) (length vs) ≡ true → HasParameters o (length vs)
-  at None h = absurd (true_false (sym h))
+  at None h = absurd (true≢false (sym h))
   at (Some q) h = eqb-true (length q.params) (length vs) h
-takes_of T (IntValue z) vs e = absurd (true_false (sym e))
-takes_of T (TruthValue z) vs e = absurd (true_false (sym e))
-takes_of T OkayValue vs e = absurd (true_false (sym e))
-takes_of T (TextValue z) vs e = absurd (true_false (sym e))
-takes_of T (ExceptionValue z) vs e = absurd (true_false (sym e))
-takes_of T (ThreadValue z) vs e = absurd (true_false (sym e))
-takes_of T (LocationValue k z) vs e = absurd (true_false (sym e))
+takes_of T (IntValue z) vs e = absurd (true≢false (sym e))
+takes_of T (TruthValue z) vs e = absurd (true≢false (sym e))
+takes_of T OkayValue vs e = absurd (true≢false (sym e))
+takes_of T (TextValue z) vs e = absurd (true≢false (sym e))
+takes_of T (ExceptionValue z) vs e = absurd (true≢false (sym e))
+takes_of T (ThreadValue z) vs e = absurd (true≢false (sym e))
+takes_of T (LocationValue k z) vs e = absurd (true≢false (sym e))
 
 -- a closure that an engine is asked to call takes one
 abbrev engine_ends : (R : Type 0) → Option ℕ → Bool → Option (Kept R)
 engine_ends R o c = if c then Some (KeptRaising (Exn (codes "call_limit"))) else with_a_parameter o
 
 engine_takes : (R : Type 0) (o : Option ℕ) (c : Bool) → engine_ends R o c ≡ None → takes_count o 1 ≡ true
-engine_takes R o true e = absurd (true_false (ap is_some e))
-engine_takes R None false e = absurd (true_false (ap is_some e))
+engine_takes R o true e = absurd (true≢false (ap is_some e))
+engine_takes R None false e = absurd (true≢false (ap is_some e))
 engine_takes R (Some n) false e = at (n == 1) e where
   ends : Bool → Option (Kept R)
   ends c = if c then None else Some (KeptRaising (Exn (codes "arity")))
 
   at : (c : Bool) → ends c ≡ None → c ≡ true
   at true h = refl
-  at false h = absurd (true_false (ap is_some h))
+  at false h = absurd (true≢false (ap is_some h))
 
 module _ {R : Type 0} (eq : R → R → Bool) (T : Table R) (t : ℕ) (s : Self R) where
   either_outcome : (op : PlainOperation R) (c : Bool) (p q : PlainOutcome R) → CompleteOutcome T op p → CompleteOutcome T op q → CompleteOutcome T op (if c then p else q)
@@ -267,3 +266,13 @@ pub rows_complete : {R : Type 0} → RowsComplete R
 rows_complete {R} eq T S g op o h t s cell k =
     let z : Stands T op o = stands eq T S g op o h in
     subst (λ (count : PlainValue R → Option ℕ). CompleteOutcome T op (plain_row count eq t s op cell)) (sym (params_same T S g)) (row_complete eq T t s z.activations op z.complete z.goes_on cell k)
+
+-- a row and the window that it answers
+pub acts_read : {R X : Type 0} → ActsRead R X
+acts_read {R} {X} eq T S g a s act ns op after t r o around e ends waits thread self cell k =
+    let h : StandsFor eq T S op o = (a, s, act, ns, after, t, r, around, e) in
+    by_outcome (plain_row (node_params S) eq thread self op cell) (rows_read eq T S g op o h ends waits thread self cell k) (rows_complete eq T S g op o h thread self cell k) where
+      by_outcome : (outcome : PlainOutcome R) → cell_row eq ends waits thread self o (option_map (read_cell T) cell) ≡ read_outcome T ends waits o outcome → CompleteOutcome T op outcome
+          → RowAnswered T S ends waits op after o around act ns outcome (cell_row eq ends waits thread self o (option_map (read_cell T) cell))
+      by_outcome PlainWaits q c = q
+      by_outcome (PlainEnds kind left answer) q c = (q, c.0, answers_read eq T S g a s act ns op after t r o around e answer c.1)

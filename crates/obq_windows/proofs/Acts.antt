@@ -1,6 +1,6 @@
 -- An act's form that stands next.
 use Rattle.std.specs.Prelude.{Bool, List, None, Option, Some, [], codes, false, if◌then◌else◌, is_some, length, nat_lt, option_map, refl, true, unwrap_or, ℕ, ◌==◌, ◌∷◌, ◌≡◌}
-use Rattle.std.proofs.Common.{ap, subst, sym, ◌∙◌}
+use Rattle.std.proofs.Common.{ap, subst, sym, ◌∙◌, true≢false}
 use Rattle.std.proofs.lemmas.List.{append-nil}
 use Rattle.obq_base.specs.declared.limits.TheConstants.{ARRAY_LIMIT}
 use Rattle.obq_model.specs.Depth.{is_too_deep}
@@ -8,7 +8,6 @@ use Rattle.obq_model.specs.Exceptions.{arity, array_limit, call_limit, closure_l
 use Rattle.obq_model.specs.Step.{CallMethod, EachItem, Found, Frame, Itself, Needs, New, Next, Operation, RunEngine, Self, Set, activations_at, find, fork_of, is_call_limit, params_of, plug, self_at, with_one_parameter}
 use Rattle.obq_model.specs.Store.{ArrayCell, ObjectCell, field_names, twice}
 use Rattle.obq_model.specs.Terms.{Bytes, Closure, Const, End, Exc, Exn, Form, Int, Invoke, IsMethod, Loc, MakeArray, Member, Object, Okay, Part, SetMethod, Term, Text, Thread, Truth, Value}
-use Rattle.obq_model.proofs.Among.{true_false}
 use Rattle.obq_model.proofs.Plug.{needs_plug, operands, step_plug}
 use Rattle.obq_windows.specs.Meanings.{Moves}
 use Rattle.obq_windows.specs.Moves.{act_ends, count_activations, refused_method, tree_act, tree_refused, with_a_parameter, without_parameter}
@@ -156,7 +155,7 @@ act_asks {R} eq T w a s fs op after o around e =
     at (act_ends (tree_params T) (tree_refused T) (activations_at a (frames_of T fs)) op) (act_is eq T w (activations_at a (frames_of T fs)) (self_at s (frames_of T fs)) op (scope_after T after)) where
       at : (z : Option (Kept R)) → ActIs T op (scope_after T after) (found_in eq T a s fs (act_form T op (scope_after T after))) z → Asked T fs op after o around
       at None h = asked_is T fs op after o around _ e (needs_plug eq a s (frames_of T fs) _ _ [] (are_frames T fs) h ∙ ap (Needs (read_operation T op (scope_after T after))) (append-nil (frames_of T fs)))
-      at (Some k) h = absurd (true_false (ap (λ (z : Found R). is_some (operation_in z)) (sym e ∙ step_plug eq a s (frames_of T fs) _ _ (are_frames T fs) h)))
+      at (Some k) h = absurd (true≢false (ap (λ (z : Found R). is_some (operation_in z)) (sym e ∙ step_plug eq a s (frames_of T fs) _ _ (are_frames T fs) h)))
 
 -- an act that is needed doesn't end in another way
 pub act_goes_on : {R : Type 0} → (eq : R → R → Bool) (T : Table R) → IsMadeTable T → (a : ℕ) (s : Self R) (fs : List (TreeFrame R)) (op : PlainOperation R) (after : TreeAfter R) (o : Operation R) (around : List (Frame R)) → find eq a s (term_of T fs (TreeAct op after)) ≡ Needs o around
@@ -165,4 +164,4 @@ act_goes_on {R} eq T w a s fs op after o around e =
     at (act_ends (tree_params T) (tree_refused T) (activations_at a (frames_of T fs)) op) refl (act_is eq T w (activations_at a (frames_of T fs)) (self_at s (frames_of T fs)) op (scope_after T after)) where
       at : (z : Option (Kept R)) → act_ends (tree_params T) (tree_refused T) (activations_at a (frames_of T fs)) op ≡ z → ActIs T op (scope_after T after) (found_in eq T a s fs (act_form T op (scope_after T after))) z → act_ends (tree_params T) (tree_refused T) (activations_at a (frames_of T fs)) op ≡ None
       at None q h = q
-      at (Some k) q h = absurd (true_false (ap (λ (z : Found R). is_some (operation_in z)) (sym e ∙ step_plug eq a s (frames_of T fs) _ _ (are_frames T fs) h)))
+      at (Some k) q h = absurd (true≢false (ap (λ (z : Found R). is_some (operation_in z)) (sym e ∙ step_plug eq a s (frames_of T fs) _ _ (are_frames T fs) h)))

@@ -1,7 +1,7 @@
 -- A part that begins: nodes and trees do the same.
 use Rattle.std.specs.Prelude.{Bool, List, None, Option, Some, [], codes, false, if◌then◌else◌, nat_lt, refl, slice_get, suc, true, ℕ, ◌∷◌, ◌≡◌}
 use Rattle.obq_base.specs.declared.code.Node.TheVariants as n
-use Rattle.std.proofs.Common.{subst, sym}
+use Rattle.std.proofs.Common.{subst, sym, true≢false}
 use Rattle.obq_base.specs.Tree.{ABlock, ALink, AProc, ASuffix, AnArm, AnExpr, ApplySuffix, ArmTrees, ArrayTree, BlockTree, ChainTree, CloneTree, ExitTree, ExprTree, FinallyTree, ForTree, ForeachTree, IfTree, IndexSuffix, IntTree, InvokeSuffix, LinkTrees, LoopTree, MaybeBlock, MethodOf, NameTree, NoArms, NoBlock, NoExprs, NoLinks, NoSuffixes, ObjectTree, OkTree, ProcTree, RaiseTree, RedirectTree, SelectSuffix, SuffixTrees, SuffixedTree, TextTree, TruthTree, TryTree, WatchTree}
 use Rattle.obq_base.specs.declared.code.CodeNo.{CodeNo}
 use Rattle.obq_base.specs.declared.code.Node.{Node}
@@ -14,7 +14,6 @@ use Rattle.obq_model.specs.Opened.{open_block}
 use Rattle.obq_model.specs.Reading.{hide, read}
 use Rattle.obq_model.specs.Scopes.{inside, slots_of}
 use Rattle.obq_model.specs.Terms.{Array, Bytes, Condition, Engine, ExitUp, Object, Variable, Writer}
-use Rattle.obq_model.proofs.Among.{true_false}
 use Rattle.obq_model.proofs.Drafted.{drafted_block, drafted_expr, drafted_suffix}
 use Rattle.obq_model.proofs.Finds.{row_called}
 use Rattle.obq_model.proofs.Occurring.{captured_covered}
@@ -23,7 +22,7 @@ use Rattle.obq_windows.specs.Complete.{PlaceLaw}
 use Rattle.obq_windows.specs.Moves.{HintExpr, begin_args, begin_expr, begin_if, begin_proc, begin_suffixes, captured_values, going_on, method_tree, set_method_tree, tree_closed, with_suffixes}
 use Rattle.obq_windows.specs.Places.{Bound, Place, bound_names, env_at, outside_at, writer_at}
 use Rattle.obq_windows.specs.Trees.{Asks, BlockTask, ExprTask, PendingChain, PendingFirst, PendingForeach, PendingHead, PendingIf, PendingLast, PendingLoop, PendingRaise, PendingTry, PendingWatch, PlainSetMethod, Silent, Stepped, Tag, ToArray, ToBuiltin, ToClone, ToRedirect, TreeAct, TreeFrame, TreeHere, TreeMoved, TreeRaising, TreeRun, TreeValue, push, tree_made, tree_moved, tree_raises}
-use Rattle.obq_windows.specs.Values.{ClosureValue, ExceptionValue, IntValue, LocationValue, OkayValue, PlainValue, PlainValues, Table, TextValue, ThreadValue, TruthValue, depth_of_values}
+use Rattle.obq_windows.specs.Values.{ClosureValue, ExceptionValue, IntValue, LocationValue, OkayValue, PlainValue, PlainValues, Table, TextValue, ThreadValue, TruthValue, depth_of_values, new_closure}
 use Rattle.obq_windows.specs.Windows.{Activation, NodeAct, NodeChain, NodeFirst, NodeForeach, NodeFrame, NodeHead, NodeHere, NodeIf, NodeLast, NodeLoop, NodeMoved, NodeRaise, NodeRaising, NodeRun, NodeTry, NodeValue, NodeWatch, Store, arms_node, begin_node, method_node, node_at, node_closed, node_made, node_moved, node_raises, set_method_node, suffixes_node, with_operator, with_suffix}
 use Rattle.obq_windows.proofs.AlikeCalls.{args_alike, as_pair}
 use Rattle.obq_windows.proofs.AlikeLiterals.{fields_alike}
@@ -60,13 +59,13 @@ proc_alike : {R : Type 0} → (T : Table R) (S : Store R) → Agrees T S → (a 
 proc_alike {R} T S g a thread count act b bound d w ns fs fr at params block place h =
     at_node T S act.code at (n.Proc h.nodes.0 (slots_of (outside_at T (place_at act bound)) (bound_names bound) (captured_by (outside_at T (place_at act bound)) (bound_names bound) (AProc params block place)))) (begin_node S a thread count act ns at b) _
     (item_here (nodes_of (S.code act.code)) at _ h.nodes.1 h.nodes.2)
-    (subst (λ (vs : PlainValues R). Same T S (if nat_lt CLOSURE_LIMIT (depth_of_values vs) then node_moved Stepped act ns (node_raises (codes "closure_limit")) else node_made act ns (NodeValue (ClosureValue thread count (h.nodes.0 ∷ []) 0 vs))) (begin_proc T thread count (h.nodes.0 ∷ []) (place_at act bound) (AProc params block place) fs))
+    (subst (λ (vs : PlainValues R). Same T S (if nat_lt CLOSURE_LIMIT (depth_of_values vs) then node_moved Stepped act ns (node_raises (codes "closure_limit")) else node_made act ns (NodeValue (new_closure thread count (h.nodes.0 ∷ []) 0 vs))) (begin_proc T thread count (h.nodes.0 ∷ []) (place_at act bound) (AProc params block place) fs))
     (sym (capture_is T S act b bound w d.members (captured_by (outside_at T (place_at act bound)) (bound_names bound) (AProc params block place)) (λ x e. captured_covered (outside_at T (place_at act bound)) (bound_names bound) (free_procedure [] (AProc params block place)) x e)))
-    (subst (λ (c : Bool). Same T S (if c then node_moved Stepped act ns (node_raises (codes "closure_limit")) else node_made act ns (NodeValue (ClosureValue thread count (h.nodes.0 ∷ []) 0 (captured_values T (place_at act bound) (captured_by (outside_at T (place_at act bound)) (bound_names bound) (AProc params block place))))))
+    (subst (λ (c : Bool). Same T S (if c then node_moved Stepped act ns (node_raises (codes "closure_limit")) else node_made act ns (NodeValue (new_closure thread count (h.nodes.0 ∷ []) 0 (captured_values T (place_at act bound) (captured_by (outside_at T (place_at act bound)) (bound_names bound) (AProc params block place))))))
     (begin_proc T thread count (h.nodes.0 ∷ []) (place_at act bound) (AProc params block place) fs))
     (sym (d.proc params block place)) (by_depth (is_too_deep (read (hide params (env_at T (place_at act bound))) (open_block (writer_at T (place_at act bound)) (inside (outside_at T (place_at act bound)) [] (captured_by (outside_at T (place_at act bound)) (bound_names bound) (AProc params block place))) params block)))))) where
-      by_depth : (c : Bool) → Same T S (if c then node_moved Stepped act ns (node_raises (codes "closure_limit")) else node_made act ns (NodeValue (ClosureValue thread count (h.nodes.0 ∷ []) 0 (captured_values T (place_at act bound) (captured_by (outside_at T (place_at act bound)) (bound_names bound) (AProc params block place))))))
-          (if c then tree_moved Stepped fs (tree_raises (codes "closure_limit")) else tree_made fs (TreeValue (ClosureValue thread count (h.nodes.0 ∷ []) 0 (captured_values T (place_at act bound) (captured_by (outside_at T (place_at act bound)) (bound_names bound) (AProc params block place))))))
+      by_depth : (c : Bool) → Same T S (if c then node_moved Stepped act ns (node_raises (codes "closure_limit")) else node_made act ns (NodeValue (new_closure thread count (h.nodes.0 ∷ []) 0 (captured_values T (place_at act bound) (captured_by (outside_at T (place_at act bound)) (bound_names bound) (AProc params block place))))))
+          (if c then tree_moved Stepped fs (tree_raises (codes "closure_limit")) else tree_made fs (TreeValue (new_closure thread count (h.nodes.0 ∷ []) 0 (captured_values T (place_at act bound) (captured_by (outside_at T (place_at act bound)) (bound_names bound) (AProc params block place))))))
       by_depth true = record { tag = refl; makes = refl; height = b; frames = fr; focus = refl }
       by_depth false = record { tag = refl; makes = refl; height = b; frames = fr; focus = refl }
 
@@ -77,13 +76,13 @@ pub method_alike : {R : Type 0} → (T : Table R) (S : Store R) → Agrees T S �
 method_alike {R} T S g o x thread count act b bound d w ns fs fr at params block place h =
     at_node T S act.code at (n.Meth h.nodes.0 (slots_of (outside_at T (place_at act bound)) (bound_names bound) (captured_by (outside_at T (place_at act bound)) (bound_names bound) (AProc params block place)))) (method_node S thread count o x act ns) _
     (item_here (nodes_of (S.code act.code)) at _ h.nodes.1 h.nodes.2)
-    (subst (λ (vs : PlainValues R). Same T S (if nat_lt CLOSURE_LIMIT (depth_of_values vs) then node_moved Stepped act ns (node_raises (codes "closure_limit")) else node_closed (node_moved (Asks (PlainSetMethod o x (ClosureValue thread count (h.nodes.0 ∷ []) 0 vs))) act ns (NodeAct (PlainSetMethod o x (ClosureValue thread count (h.nodes.0 ∷ []) 0 vs)) NodeHere))) (method_tree T thread count (h.nodes.0 ∷ []) (place_at act bound) o x (AProc params block place) fs))
+    (subst (λ (vs : PlainValues R). Same T S (if nat_lt CLOSURE_LIMIT (depth_of_values vs) then node_moved Stepped act ns (node_raises (codes "closure_limit")) else node_closed (node_moved (Asks (PlainSetMethod o x (new_closure thread count (h.nodes.0 ∷ []) 0 vs))) act ns (NodeAct (PlainSetMethod o x (new_closure thread count (h.nodes.0 ∷ []) 0 vs)) NodeHere))) (method_tree T thread count (h.nodes.0 ∷ []) (place_at act bound) o x (AProc params block place) fs))
     (sym (capture_is T S act b bound w d.members (captured_by (outside_at T (place_at act bound)) (bound_names bound) (AProc params block place)) (λ x e. captured_covered (outside_at T (place_at act bound)) (bound_names bound) (free_procedure [] (AProc params block place)) x e)))
-    (subst (λ (c : Bool). Same T S (if c then node_moved Stepped act ns (node_raises (codes "closure_limit")) else node_closed (node_moved (Asks (PlainSetMethod o x (ClosureValue thread count (h.nodes.0 ∷ []) 0 (captured_values T (place_at act bound) (captured_by (outside_at T (place_at act bound)) (bound_names bound) (AProc params block place)))))) act ns (NodeAct (PlainSetMethod o x (ClosureValue thread count (h.nodes.0 ∷ []) 0 (captured_values T (place_at act bound) (captured_by (outside_at T (place_at act bound)) (bound_names bound) (AProc params block place))))) NodeHere)))
+    (subst (λ (c : Bool). Same T S (if c then node_moved Stepped act ns (node_raises (codes "closure_limit")) else node_closed (node_moved (Asks (PlainSetMethod o x (new_closure thread count (h.nodes.0 ∷ []) 0 (captured_values T (place_at act bound) (captured_by (outside_at T (place_at act bound)) (bound_names bound) (AProc params block place)))))) act ns (NodeAct (PlainSetMethod o x (new_closure thread count (h.nodes.0 ∷ []) 0 (captured_values T (place_at act bound) (captured_by (outside_at T (place_at act bound)) (bound_names bound) (AProc params block place))))) NodeHere)))
     (method_tree T thread count (h.nodes.0 ∷ []) (place_at act bound) o x (AProc params block place) fs))
     (sym (d.proc params block place)) (by_depth (is_too_deep (read (hide params (env_at T (place_at act bound))) (open_block (writer_at T (place_at act bound)) (inside (outside_at T (place_at act bound)) [] (captured_by (outside_at T (place_at act bound)) (bound_names bound) (AProc params block place))) params block)))))) where
-      by_depth : (c : Bool) → Same T S (if c then node_moved Stepped act ns (node_raises (codes "closure_limit")) else node_closed (node_moved (Asks (PlainSetMethod o x (ClosureValue thread count (h.nodes.0 ∷ []) 0 (captured_values T (place_at act bound) (captured_by (outside_at T (place_at act bound)) (bound_names bound) (AProc params block place)))))) act ns (NodeAct (PlainSetMethod o x (ClosureValue thread count (h.nodes.0 ∷ []) 0 (captured_values T (place_at act bound) (captured_by (outside_at T (place_at act bound)) (bound_names bound) (AProc params block place))))) NodeHere)))
-          (if c then tree_moved Stepped fs (tree_raises (codes "closure_limit")) else tree_closed (tree_moved (Asks (PlainSetMethod o x (ClosureValue thread count (h.nodes.0 ∷ []) 0 (captured_values T (place_at act bound) (captured_by (outside_at T (place_at act bound)) (bound_names bound) (AProc params block place)))))) fs (TreeAct (PlainSetMethod o x (ClosureValue thread count (h.nodes.0 ∷ []) 0 (captured_values T (place_at act bound) (captured_by (outside_at T (place_at act bound)) (bound_names bound) (AProc params block place))))) TreeHere)))
+      by_depth : (c : Bool) → Same T S (if c then node_moved Stepped act ns (node_raises (codes "closure_limit")) else node_closed (node_moved (Asks (PlainSetMethod o x (new_closure thread count (h.nodes.0 ∷ []) 0 (captured_values T (place_at act bound) (captured_by (outside_at T (place_at act bound)) (bound_names bound) (AProc params block place)))))) act ns (NodeAct (PlainSetMethod o x (new_closure thread count (h.nodes.0 ∷ []) 0 (captured_values T (place_at act bound) (captured_by (outside_at T (place_at act bound)) (bound_names bound) (AProc params block place))))) NodeHere)))
+          (if c then tree_moved Stepped fs (tree_raises (codes "closure_limit")) else tree_closed (tree_moved (Asks (PlainSetMethod o x (new_closure thread count (h.nodes.0 ∷ []) 0 (captured_values T (place_at act bound) (captured_by (outside_at T (place_at act bound)) (bound_names bound) (AProc params block place)))))) fs (TreeAct (PlainSetMethod o x (new_closure thread count (h.nodes.0 ∷ []) 0 (captured_values T (place_at act bound) (captured_by (outside_at T (place_at act bound)) (bound_names bound) (AProc params block place))))) TreeHere)))
       by_depth true = record { tag = refl; makes = refl; height = b; frames = fr; focus = refl }
       by_depth false = record { tag = refl; makes = refl; height = b; frames = fr; focus = (NodeHere, refl, refl) }
 
@@ -122,10 +121,10 @@ suffixed_alike {R} T S g a thread count act b bound w ns fs fr at e ss None q h 
           → Same T S (node_moved Silent act (with_suffix (S.end act.code (suc at)) (count_suffixes ss) b ns) (NodeRun (suc at) b)) (begin_suffixes T a None (place_at act bound) e ss fs)
       by_suffixes NoSuffixes k l = alike T S Silent act b ns (NodeRun (suc at) b) fs (TreeRun (place_at act bound) (ExprTask e)) fr (suc at, refl, (bound, refl, w), l)
       by_suffixes (ASuffix x ss) k l = alike T S Silent act b _ (NodeRun (suc at) b) (push (place_at act bound) (PendingHead x ss) fs) (TreeRun (place_at act bound) (ExprTask e)) (suffix_frames T S act b bound w ns fs fr (S.end act.code (suc at)) (ASuffix x ss) k) (suc at, refl, (bound, refl, w), l)
-suffixed_alike T S g a thread count act b bound w ns fs fr at e NoSuffixes (Some r) q h = absurd (true_false (sym (row_called (outside_at T (place_at act bound)) (bound_names bound) e NoSuffixes r q)))
-suffixed_alike T S g a thread count act b bound w ns fs fr at e (ASuffix (SelectSuffix x place) ss) (Some r) q h = absurd (true_false (sym (row_called (outside_at T (place_at act bound)) (bound_names bound) e (ASuffix (SelectSuffix x place) ss) r q)))
-suffixed_alike T S g a thread count act b bound w ns fs fr at e (ASuffix (InvokeSuffix x es place) ss) (Some r) q h = absurd (true_false (sym (row_called (outside_at T (place_at act bound)) (bound_names bound) e (ASuffix (InvokeSuffix x es place) ss) r q)))
-suffixed_alike T S g a thread count act b bound w ns fs fr at e (ASuffix (IndexSuffix i place) ss) (Some r) q h = absurd (true_false (sym (row_called (outside_at T (place_at act bound)) (bound_names bound) e (ASuffix (IndexSuffix i place) ss) r q)))
+suffixed_alike T S g a thread count act b bound w ns fs fr at e NoSuffixes (Some r) q h = absurd (true≢false (sym (row_called (outside_at T (place_at act bound)) (bound_names bound) e NoSuffixes r q)))
+suffixed_alike T S g a thread count act b bound w ns fs fr at e (ASuffix (SelectSuffix x place) ss) (Some r) q h = absurd (true≢false (sym (row_called (outside_at T (place_at act bound)) (bound_names bound) e (ASuffix (SelectSuffix x place) ss) r q)))
+suffixed_alike T S g a thread count act b bound w ns fs fr at e (ASuffix (InvokeSuffix x es place) ss) (Some r) q h = absurd (true≢false (sym (row_called (outside_at T (place_at act bound)) (bound_names bound) e (ASuffix (InvokeSuffix x es place) ss) r q)))
+suffixed_alike T S g a thread count act b bound w ns fs fr at e (ASuffix (IndexSuffix i place) ss) (Some r) q h = absurd (true≢false (sym (row_called (outside_at T (place_at act bound)) (bound_names bound) e (ASuffix (IndexSuffix i place) ss) r q)))
 suffixed_alike {R} T S g a thread count act b bound w ns fs fr at e (ASuffix (ApplySuffix es place) ss) (Some r) q h =
     at_node T S act.code at (n.Suffixes (count_suffixes ss)) (begin_node S a thread count act ns at b) _ (node_here T S h)
     (subst (λ (o : Option Node). Same T S (suffixes_node S a act ns at (count_suffixes ss) b o) (begin_args T a (ToBuiltin r) (place_at act bound) [] es (with_suffixes (place_at act bound) ss fs))) (sym (node_here T S (first_of T S (next_here T S h))))

@@ -18,12 +18,12 @@ use Rattle.obq_windows.specs.Moves.{act_ends, begin_args, call_code, call_plain,
 use Rattle.obq_windows.specs.Places.{Bound, bound_names, bound_values, outside_at, place_of, proc_outside, zipped}
 use Rattle.obq_windows.specs.Results.{Does, Gives, PlainResult, Raises, alias_set, applied, array_made, indexed, invoked, item_set, objects_in, redirected, value_set}
 use Rattle.obq_windows.specs.Trees.{Asks, BlockTask, Callee, ExprTask, Kept, KeptRaising, KeptValue, PendingArguments, PendingCalled, PlainCloning, PlainOperation, PlainRunEngine, Silent, Stepped, ToArray, ToBuiltin, ToCall, ToClone, ToIndex, ToInvoke, ToRedirect, ToSetAlias, ToSetIndex, ToSetValue, TreeAct, TreeAfter, TreeFrame, TreeHere, TreeRaising, TreeRun, TreeValue, push, tree_moved, tree_raises}
-use Rattle.obq_windows.specs.Values.{ClosureValue, ExceptionValue, IntValue, LocationValue, OkayValue, PlainValue, PlainValues, Table, TextValue, ThreadValue, TruthValue, count_in, proc_named, tree_params}
-use Rattle.obq_windows.specs.Windows.{Activation, NodeAct, NodeAfter, NodeArguments, NodeCalled, NodeFrame, NodeHere, NodeRaising, NodeRun, NodeValue, Store, act_node, activation_of, args_node, call_node_code, call_node_plain, clone_node, code_params, count_in_code, enter_code, finish_node, node_moved, node_params, node_raises, node_result}
+use Rattle.obq_windows.specs.Values.{ClosureValue, ExceptionValue, IntValue, LocationValue, OkayValue, Origin, PlainValue, PlainValues, Table, TextValue, ThreadValue, TruthValue, count_in, proc_named, tree_params}
+use Rattle.obq_windows.specs.Windows.{Activation, Enters, NodeAct, NodeAfter, NodeArguments, NodeCalled, NodeFrame, NodeHere, NodeRaising, NodeRun, NodeValue, Store, act_node, activation_of, args_node, call_node_code, call_node_plain, clone_node, code_params, count_in_code, enter_code, finish_node, node_changed, node_moved, node_params, node_raises, node_result}
 use Rattle.obq_windows.proofs.Calls.{same_length}
 use Rattle.obq_windows.proofs.Envs.{fun_eq, zipped_names}
 use Rattle.obq_windows.proofs.Frames.{frames_up, in_force}
-use Rattle.obq_windows.proofs.Slots.{alike, first_of, not_above, second_of}
+use Rattle.obq_windows.proofs.Slots.{alike, changed_alike, first_of, not_above, second_of}
 
 zipped_values : {R : Type 0} → (xs : List Bytes) (vs : List (PlainValue R)) → length xs ≡ length vs → take (length vs) vs ≡ bound_values (zipped xs vs)
 zipped_values [] [] e = refl
@@ -46,9 +46,9 @@ length_zipped (x ∷ xs) [] e = absurd (none (length xs) e) where
 length_zipped (x ∷ xs) (v ∷ vs) e = ap suc (length_zipped xs vs (omega (arith, e)))
 
 -- where a procedure is entered its code begins
-pub at_entry : {R : Type 0} → (T : Table R) (S : Store R) (thread count : ℕ) (group : List CodeNo) (number : CodeNo) (cs : PlainValues R) (vs : List (PlainValue R)) (c : Code) (q : Proc) → S.code number ≡ Some c → IsNumbered T.procs number c q → length q.params ≡ length vs
-    → FocusIs T S (activation_of number thread count group cs vs) (length vs) (NodeRun 0 (length vs)) (TreeRun (place_of number thread count group cs (zipped q.params vs)) (BlockTask q.body))
-at_entry T S thread count group number cs vs c q ce h l = (
+pub at_entry : {R : Type 0} → (T : Table R) (S : Store R) (origin : Origin) (count : ℕ) (group : List CodeNo) (number : CodeNo) (cs : PlainValues R) (vs : List (PlainValue R)) (c : Code) (q : Proc) → S.code number ≡ Some c → IsNumbered T.procs number c q → length q.params ≡ length vs
+    → FocusIs T S (activation_of number origin count group cs vs) (length vs) (NodeRun 0 (length vs)) (TreeRun (place_of number origin count group cs (zipped q.params vs)) (BlockTask q.body))
+at_entry T S origin count group number cs vs c q ce h l = (
   0,
   refl,
   (zipped q.params vs, refl, record { values = zipped_values q.params vs l; many = length_zipped q.params vs l }),
@@ -61,22 +61,23 @@ at_entry T S thread count group number cs vs c q ce h l = (
   },
 )
 
-enter_alike : {R : Type 0} → (T : Table R) (S : Store R) (act : Activation R) (b : ℕ) (bound : List (Bound R)) → IsBound act b bound → (ns : List (NodeFrame R)) (fs : List (TreeFrame R)) → FramesAre T S act b ns fs → (thread count : ℕ) (group : List CodeNo) (number : CodeNo) (cs : PlainValues R) (vs : List (PlainValue R))
-    → (c : Option Code) → S.code number ≡ c → IsCodeAt T.procs number c → Same T S (enter_code S thread count group number cs c act vs ns) (entered thread count group number cs (T.procs number) (place_at act bound) vs fs)
-enter_alike {R} T S act b bound w ns fs fr thread count group number cs vs None ce h =
-    subst (λ (o : Option Proc). Same T S (node_moved Stepped act ns (node_raises (codes "type"))) (entered thread count group number cs o (place_at act bound) vs fs)) (sym h) (alike T S Stepped act b ns (node_raises (codes "type")) fs (tree_raises (codes "type")) fr refl)
-enter_alike {R} T S act b bound w ns fs fr thread count group number cs vs (Some c) ce (q, h) =
-    subst (λ (o : Option Proc). Same T S (enter_code S thread count group number cs (Some c) act vs ns) (entered thread count group number cs o (place_at act bound) vs fs)) (sym h.proc_is)
-    (subst (λ (m : ℕ). Same T S (if m == length vs then node_moved Stepped (activation_of number thread count group cs vs) (NodeCalled act ∷ ns) (NodeRun 0 (length vs)) else node_moved Stepped act ns (node_raises (codes "arity"))) (entered thread count group number cs (Some q) (place_at act bound) vs fs)) (sym h.code_is.params_are)
+enter_alike : {R : Type 0} → (T : Table R) (S : Store R) (act : Activation R) (b : ℕ) (bound : List (Bound R)) → IsBound act b bound → (ns : List (NodeFrame R)) (fs : List (TreeFrame R)) → FramesAre T S act b ns fs → (origin : Origin) (count : ℕ) (group : List CodeNo) (number : CodeNo) (cs : PlainValues R) (vs : List (PlainValue R))
+    → (c : Option Code) → S.code number ≡ c → IsCodeAt T.procs number c → Same T S (enter_code S origin count group number cs c act vs ns) (entered origin count group number cs (T.procs number) (place_at act bound) vs fs)
+enter_alike {R} T S act b bound w ns fs fr origin count group number cs vs None ce h =
+    subst (λ (o : Option Proc). Same T S (node_moved Stepped act ns (node_raises (codes "type"))) (entered origin count group number cs o (place_at act bound) vs fs)) (sym h) (alike T S Stepped act b ns (node_raises (codes "type")) fs (tree_raises (codes "type")) fr refl)
+enter_alike {R} T S act b bound w ns fs fr origin count group number cs vs (Some c) ce (q, h) =
+    subst (λ (o : Option Proc). Same T S (enter_code S origin count group number cs (Some c) act vs ns) (entered origin count group number cs o (place_at act bound) vs fs)) (sym h.proc_is)
+    (subst (λ (m : ℕ). Same T S (if m == length vs then node_changed Enters (node_moved Stepped (activation_of number origin count group cs vs) (NodeCalled act ∷ ns) (NodeRun 0 (length vs))) else node_moved Stepped act ns (node_raises (codes "arity"))) (entered origin count group number cs (Some q) (place_at act bound) vs fs)) (sym h.code_is.params_are)
     (by_arity (length q.params == length vs) refl)) where
       by_arity : (d : Bool) → (length q.params == length vs) ≡ d
-          → Same T S (if d then node_moved Stepped (activation_of number thread count group cs vs) (NodeCalled act ∷ ns) (NodeRun 0 (length vs)) else node_moved Stepped act ns (node_raises (codes "arity")))
-          (if d then tree_moved Stepped (push (place_at act bound) PendingCalled fs) (TreeRun (place_of number thread count group cs (zipped q.params vs)) (BlockTask q.body)) else tree_moved Stepped fs (tree_raises (codes "arity")))
+          → Same T S (if d then node_changed Enters (node_moved Stepped (activation_of number origin count group cs vs) (NodeCalled act ∷ ns) (NodeRun 0 (length vs))) else node_moved Stepped act ns (node_raises (codes "arity")))
+          (if d then tree_moved Stepped (push (place_at act bound) PendingCalled fs) (TreeRun (place_of number origin count group cs (zipped q.params vs)) (BlockTask q.body)) else tree_moved Stepped fs (tree_raises (codes "arity")))
       by_arity false e = alike T S Stepped act b ns (node_raises (codes "arity")) fs (tree_raises (codes "arity")) fr refl
       by_arity true e =
           let l : length q.params ≡ length vs = same_length (length q.params) (length vs) e in
-          alike T S Stepped (activation_of number thread count group cs vs) (length vs) (NodeCalled act ∷ ns) (NodeRun 0 (length vs)) (push (place_at act bound) PendingCalled fs) (TreeRun (place_of number thread count group cs (zipped q.params vs)) (BlockTask q.body))
-          (NodeCalled act, ns, refl, (act, refl), frames_up T S act b (length act.locals) ns fs (in_force act b bound w) fr) (at_entry T S thread count group number cs vs c q ce h l)
+          changed_alike T S Enters _ _
+          (alike T S Stepped (activation_of number origin count group cs vs) (length vs) (NodeCalled act ∷ ns) (NodeRun 0 (length vs)) (push (place_at act bound) PendingCalled fs) (TreeRun (place_of number origin count group cs (zipped q.params vs)) (BlockTask q.body))
+          (NodeCalled act, ns, refl, (act, refl), frames_up T S act b (length act.locals) ns fs (in_force act b bound w) fr) (at_entry T S origin count group number cs vs c q ce h l))
 
 pub act_alike : {R : Type 0} → (T : Table R) (S : Store R) (act : Activation R) (b : ℕ) (ns : List (NodeFrame R)) (fs : List (TreeFrame R)) → FramesAre T S act b ns fs → (na : NodeAfter) (after : TreeAfter R) → AfterIs T S act b na after → (op : PlainOperation R) (o : Option (Kept R)) → Same T S (act_node o op na act ns) (tree_act o op after fs)
 act_alike T S act b ns fs fr na after h op None = alike T S (Asks op) act b ns (NodeAct op na) fs (TreeAct op after) fr (na, refl, h)
@@ -111,13 +112,13 @@ params_same {R} T S g = fun_eq (node_params S) (tree_params T) at where
 
 pub call_alike : {R : Type 0} → (T : Table R) (S : Store R) → Agrees T S → (a : ℕ) (act : Activation R) (b : ℕ) (bound : List (Bound R)) → IsBound act b bound → (ns : List (NodeFrame R)) (fs : List (TreeFrame R)) → FramesAre T S act b ns fs → (v : PlainValue R) (vs : List (PlainValue R))
     → Same T S (call_node_plain S a v act vs ns) (call_plain T a v (place_at act bound) vs fs)
-call_alike {R} T S g a act b bound w ns fs fr (ClosureValue thread count group index cs) vs = by_limit (is_call_limit a) where
-  by_code : (o : Option CodeNo) → Same T S (call_node_code S thread count group cs o act vs ns) (call_code T thread count group cs o (place_at act bound) vs fs)
+call_alike {R} T S g a act b bound w ns fs fr (ClosureValue origin count group index cs) vs = by_limit (is_call_limit a) where
+  by_code : (o : Option CodeNo) → Same T S (call_node_code S origin count group cs o act vs ns) (call_code T origin count group cs o (place_at act bound) vs fs)
   by_code None = alike T S Stepped act b ns (node_raises (codes "type")) fs (tree_raises (codes "type")) fr refl
-  by_code (Some number) = enter_alike T S act b bound w ns fs fr thread count group number cs vs (S.code number) refl (g.code number)
+  by_code (Some number) = enter_alike T S act b bound w ns fs fr origin count group number cs vs (S.code number) refl (g.code number)
 
-  by_limit : (d : Bool) → Same T S (if d then node_moved Stepped act ns (node_raises (codes "call_limit")) else call_node_code S thread count group cs (slice_get group index) act vs ns)
-      (if d then tree_moved Stepped fs (tree_raises (codes "call_limit")) else call_code T thread count group cs (slice_get group index) (place_at act bound) vs fs)
+  by_limit : (d : Bool) → Same T S (if d then node_moved Stepped act ns (node_raises (codes "call_limit")) else call_node_code S origin count group cs (slice_get group index) act vs ns)
+      (if d then tree_moved Stepped fs (tree_raises (codes "call_limit")) else call_code T origin count group cs (slice_get group index) (place_at act bound) vs fs)
   by_limit true = alike T S Stepped act b ns (node_raises (codes "call_limit")) fs (tree_raises (codes "call_limit")) fr refl
   by_limit false = by_code (slice_get group index)
 call_alike {R} T S g a act b bound w ns fs fr (LocationValue Engine e) [] = either_raises T S act b ns fs fr (is_call_limit a) (codes "call_limit") (codes "arity")

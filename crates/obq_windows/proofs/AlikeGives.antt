@@ -1,7 +1,7 @@
 -- A value, and a raising, in a frame: nodes and trees do the same.
 use Rattle.std.specs.Prelude.{Bool, List, None, Option, Some, [], bytes_eq, codes, drop, false, if◌then◌else◌, int_lt, pos, refl, slice_get, suc, true, ℕ, ℤ, ◌++◌, ◌+ℤ◌, ◌+◌, ◌∷◌, ◌≡◌, ◌≤◌}
 use Rattle.obq_base.specs.declared.code.Node.TheVariants as n
-use Rattle.std.proofs.Common.{ap, arith, subst, sym, ◌∙◌}
+use Rattle.std.proofs.Common.{ap, arith, subst, sym, ◌∙◌, true≢false}
 use Rattle.obq_base.specs.Tree.{ALink, AliasOf, AnArm, AnExpr, ApplySuffix, ArmTrees, BindTrees, BlockTree, ExprTree, FieldTree, IndexSuffix, InvokeSuffix, ItemTrees, LinkTrees, MaybeBlock, MethodOf, NoArms, NoExprs, NoLinks, SelectSuffix, SuffixTree, SuffixTrees, ValueOf}
 use Rattle.obq_base.specs.declared.code.Node.{Node}
 use Rattle.obq_base.specs.declared.trees.Operator.{Operator}
@@ -11,14 +11,13 @@ use Rattle.obq_model.specs.Occurrences.{bind_names}
 use Rattle.obq_model.specs.Scopes.{slots_of}
 use Rattle.obq_model.specs.Step.{Self}
 use Rattle.obq_model.specs.Terms.{Array, Bytes, Condition, Engine, Held, Inner, Mode, Object, Plain, Variable, Writer}
-use Rattle.obq_model.proofs.Among.{true_false}
 use Rattle.obq_model.proofs.Drafted.{drafted_block, drafted_expr, drafted_suffix}
 use Rattle.obq_windows.specs.Agrees.{Agrees, FramesAre, IsBound, Same, StandsAt, place_at}
 use Rattle.obq_windows.specs.Moves.{begin_args, begin_arms, begin_binds, begin_count, begin_vars, begin_watch, count_at, give_and, give_field, give_foreach, give_guard, give_if, give_left, give_or, give_raise, give_suffix, give_testing, give_to, give_watch, leave_tree, next_count, with_links, with_suffixes}
 use Rattle.obq_windows.specs.Places.{Bound, bind_of, bound_names, outside_at, with_bound}
 use Rattle.obq_windows.specs.Trees.{Asks, BlockTask, ExprTask, Kept, KeptRaising, KeptValue, PendingChain, PendingCount, PendingEach, PendingGuard, PendingRight, PendingTesting, PlainEachSize, PlainGet, PlainLeave, PlainLineUp, Silent, Stepped, ToCall, ToIndex, ToInvoke, ToSetAlias, ToSetValue, TreeAct, TreeFrame, TreeHere, TreeMethod, TreeRaising, TreeRun, TreeScope, TreeTest, TreeUnmet, TreeValue, push, tree_moved, tree_raises}
 use Rattle.obq_windows.specs.Values.{ClosureValue, ExceptionValue, IntValue, LocationValue, OkayValue, PlainValue, Table, TextValue, ThreadValue, TruthValue}
-use Rattle.obq_windows.specs.Windows.{Activation, NodeAct, NodeChain, NodeCount, NodeEach, NodeFrame, NodeGuard, NodeHere, NodeMethod, NodeMoved, NodeRaising, NodeRight, NodeRun, NodeScope, NodeTest, NodeTesting, NodeUnmet, NodeValue, Store, args_node, begin_node_watch, bind, binds_node, count_node, count_node_at, give_node_and, give_node_field, give_node_foreach, give_node_guard, give_node_if, give_node_left, give_node_or, give_node_raise, give_node_suffix, give_node_testing, give_node_to, give_node_watch, guards_node, leave_node, next_count_node, node_at, node_moved, node_raises, operator_in, vars_node, with_operator, with_suffix}
+use Rattle.obq_windows.specs.Windows.{Activation, LeavesMethod, NodeAct, NodeChain, NodeCount, NodeEach, NodeFrame, NodeGuard, NodeHere, NodeMethod, NodeMoved, NodeRaising, NodeRight, NodeRun, NodeScope, NodeTest, NodeTesting, NodeUnmet, NodeValue, Store, args_node, begin_node_watch, bind, binds_node, count_node, count_node_at, give_node_and, give_node_field, give_node_foreach, give_node_guard, give_node_if, give_node_left, give_node_or, give_node_raise, give_node_suffix, give_node_testing, give_node_to, give_node_watch, guards_node, leave_node, next_count_node, node_at, node_moved, node_raises, operator_in, vars_node, with_operator, with_suffix}
 use Rattle.obq_windows.proofs.Alike.{arms_alike, suffix_frames}
 use Rattle.obq_windows.proofs.AlikeCalls.{alone, args_alike}
 use Rattle.obq_windows.proofs.AlikeItems.{binds_alike, respelled, vars_alike}
@@ -26,7 +25,7 @@ use Rattle.obq_windows.proofs.Envs.{names_more}
 use Rattle.obq_windows.proofs.Frames.{bound_all, frames_kept, frames_up, place_kept}
 use Rattle.obq_windows.proofs.Heads.{at_node, expr_head, plain_node}
 use Rattle.obq_windows.proofs.Lists.{behind_here, item_here, past_end}
-use Rattle.obq_windows.proofs.Slots.{alike, behind_none, first_of, next_here, node_here, not_above, regrouped, second_of}
+use Rattle.obq_windows.proofs.Slots.{alike, behind_none, changed_alike, first_of, next_here, node_here, not_above, regrouped, second_of}
 
 -- ---- one more binder
 
@@ -193,11 +192,11 @@ head_given T S g a act b bound w ns fs fr at (IndexSuffix e place) ss h v =
     (args_alike T S g a act b bound w _ _ (suffix_frames T S act b bound w ns fs fr (S.end act.code at) ss (second_of T S g (drafted_suffix _ _ None (IndexSuffix e place)) h)) ToIndex (v ∷ []) (suc at) (AnExpr e NoExprs) (alone T S (next_here T S (first_of T S h))))
 
 pub leave_alike : {R : Type 0} → (T : Table R) (S : Store R) (act : Activation R) (b : ℕ) (ns : List (NodeFrame R)) (fs : List (TreeFrame R)) → FramesAre T S act b ns fs → (o : R) (m : Mode) (k : Kept R) → Same T S (leave_node o m k act ns) (leave_tree o m k fs)
-leave_alike T S act b ns fs fr o Held k = alike T S (Asks (PlainLeave o k)) act b ns (NodeAct (PlainLeave o k) NodeHere) fs (TreeAct (PlainLeave o k) TreeHere) fr (NodeHere, refl, refl)
-leave_alike T S act b ns fs fr o Plain (KeptValue v) = alike T S Stepped act b ns (NodeValue v) fs (TreeValue v) fr refl
-leave_alike T S act b ns fs fr o Plain (KeptRaising r) = alike T S Stepped act b ns (NodeRaising r) fs (TreeRaising r) fr refl
-leave_alike T S act b ns fs fr o Inner (KeptValue v) = alike T S Stepped act b ns (NodeValue v) fs (TreeValue v) fr refl
-leave_alike T S act b ns fs fr o Inner (KeptRaising r) = alike T S Stepped act b ns (NodeRaising r) fs (TreeRaising r) fr refl
+leave_alike T S act b ns fs fr o Held k = changed_alike T S LeavesMethod _ _ (alike T S (Asks (PlainLeave o k)) act b ns (NodeAct (PlainLeave o k) NodeHere) fs (TreeAct (PlainLeave o k) TreeHere) fr (NodeHere, refl, refl))
+leave_alike T S act b ns fs fr o Plain (KeptValue v) = changed_alike T S LeavesMethod _ _ (alike T S Stepped act b ns (NodeValue v) fs (TreeValue v) fr refl)
+leave_alike T S act b ns fs fr o Plain (KeptRaising r) = changed_alike T S LeavesMethod _ _ (alike T S Stepped act b ns (NodeRaising r) fs (TreeRaising r) fr refl)
+leave_alike T S act b ns fs fr o Inner (KeptValue v) = changed_alike T S LeavesMethod _ _ (alike T S Stepped act b ns (NodeValue v) fs (TreeValue v) fr refl)
+leave_alike T S act b ns fs fr o Inner (KeptRaising r) = changed_alike T S LeavesMethod _ _ (alike T S Stepped act b ns (NodeRaising r) fs (TreeRaising r) fr refl)
 
 pub foreach_alike : {R : Type 0} → (T : Table R) (S : Store R) (act : Activation R) (b : ℕ) (bound : List (Bound R)) → IsBound act b bound → (ns : List (NodeFrame R)) (fs : List (TreeFrame R)) → FramesAre T S act b ns fs → (child : ℕ) (x : Bytes) (block : BlockTree) (v : PlainValue R)
     → StandsAt T S act.code (draft_block (outside_at T (place_at act bound)) (bound_names bound ++ x ∷ []) block) child → Same T S (give_node_foreach v act ns child b) (give_foreach v (place_at act bound) x block fs)
@@ -262,8 +261,8 @@ testing_alike T S act b bound w ns fs fr child o c e (LocationValue k z) h = ali
 testing_alike T S act b bound w ns fs fr child o c e (ClosureValue t n group index cs) h = alike T S Stepped act b ns (node_raises (codes "type")) fs (tree_raises (codes "type")) fr refl
 
 field_plain : {R : Type 0} → (S : Store R) (k : ℕ) (v : PlainValue R) (x : Bytes) (act : Activation R) (ns : List (NodeFrame R)) (child b : ℕ) (a : Node) → plain_node a ≡ true → give_node_field S k v x act ns child b (Some a) ≡ args_node S k (ToSetValue x) act (v ∷ []) child 1 b ns
-field_plain S k v x act ns child b (n.Alias y) e = absurd (true_false (sym e))
-field_plain S k v x act ns child b (n.Meth number from) e = absurd (true_false (sym e))
+field_plain S k v x act ns child b (n.Alias y) e = absurd (true≢false (sym e))
+field_plain S k v x act ns child b (n.Meth number from) e = absurd (true≢false (sym e))
 field_plain S k v x act ns child b a e = refl
 
 -- the object of an update

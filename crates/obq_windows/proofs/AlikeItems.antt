@@ -20,7 +20,7 @@ use Rattle.obq_windows.specs.Complete.{PlaceLaw}
 use Rattle.obq_windows.specs.Moves.{HintItems, begin_binds, begin_block, begin_expr, begin_items, begin_letrec, begin_rest, begin_vars, captured_values, letrec_parts, member_values, tree_closed, with_items}
 use Rattle.obq_windows.specs.Places.{Bound, Place, bound_names, bound_values, outside_at, with_bound}
 use Rattle.obq_windows.specs.Trees.{ExprTask, ItemsTask, PendingAssign, PendingField, PendingLet, PendingThen, PendingVar, Silent, Stepped, Tag, ToSetIndex, TreeFrame, TreeMoved, TreeRun, TreeValue, push, tree_moved, tree_raises}
-use Rattle.obq_windows.specs.Values.{ClosureValue, OkayValue, PlainValues, Table, depth_of_values}
+use Rattle.obq_windows.specs.Values.{OkayValue, PlainValues, Table, depth_of_values, new_closure}
 use Rattle.obq_windows.specs.Windows.{Activation, NodeAssign, NodeField, NodeFrame, NodeItems, NodeLet, NodeMoved, NodeRun, NodeThen, NodeValue, NodeVar, Store, begin_node, bind, binds_node, group_values, item_node, items_node, node_at, node_closed, node_moved, node_raises, vars_node, with_item}
 use Rattle.obq_windows.proofs.Alike.{expr_alike}
 use Rattle.obq_windows.proofs.AlikeCalls.{args_alike, as_triple}
@@ -95,7 +95,7 @@ group_are_bound : {R : Type 0} → (T : Table R) (u : Outside) (group numbers : 
 group_are_bound T u group [] i NoRecBinds thread count cs h = refl
 group_are_bound T u group [] i (ARecBind x q place bs) thread count cs h = absurd h
 group_are_bound T u group (number ∷ numbers) i NoRecBinds thread count cs h = absurd h
-group_are_bound {R} T u group (number ∷ numbers) i (ARecBind x q place bs) thread count cs h = ap (λ l. ClosureValue thread count group i cs ∷ l) (group_are_bound T u group numbers (suc i) bs thread count cs h.1)
+group_are_bound {R} T u group (number ∷ numbers) i (ARecBind x q place bs) thread count cs h = ap (λ l. new_closure thread count group i cs ∷ l) (group_are_bound T u group numbers (suc i) bs thread count cs h.1)
 
 group_length : {R : Type 0} → (T : Table R) (u : Outside) (group numbers : List CodeNo) (i : ℕ) (bs : RecBindTrees) (thread count : ℕ) (cs : PlainValues R) → AreMembers T.procs u group numbers i bs → length (member_values thread count group i cs (member_names bs)) ≡ length numbers
 group_length T u group [] i NoRecBinds thread count cs h = refl

@@ -1,7 +1,7 @@
 -- Object literals: nodes and trees do the same.
 use Rattle.std.specs.Prelude.{Bool, List, None, Option, Some, [], codes, false, if◌then◌else◌, nat_lt, not, refl, suc, true, ℕ, ◌++◌, ◌||◌, ◌∷◌, ◌≡◌}
 use Rattle.obq_base.specs.declared.code.Node.TheVariants as n
-use Rattle.std.proofs.Common.{ap, subst, sym, ◌∙◌}
+use Rattle.std.proofs.Common.{ap, subst, sym, ◌∙◌, true≢false}
 use Rattle.obq_base.specs.Tree.{AField, AProc, AliasOf, FieldTrees, MethodOf, NoFields, ProcedureTree, ValueOf}
 use Rattle.obq_base.specs.declared.code.CodeNo.{CodeNo}
 use Rattle.obq_base.specs.declared.code.Node.{Node}
@@ -13,7 +13,6 @@ use Rattle.obq_model.specs.Occurrences.{free_procedure}
 use Rattle.obq_model.specs.Scopes.{slots_of}
 use Rattle.obq_model.specs.Store.{twice}
 use Rattle.obq_model.specs.Terms.{Array, Bytes, Condition, Engine, Object, Variable, Writer}
-use Rattle.obq_model.proofs.Among.{true_false}
 use Rattle.obq_model.proofs.Drafted.{drafted_field}
 use Rattle.obq_model.proofs.Occurring.{captured_covered}
 use Rattle.obq_windows.specs.Agrees.{Agrees, DoneIs, FramesAre, IsBound, Same, StandsAt, place_at}
@@ -22,7 +21,7 @@ use Rattle.obq_windows.specs.Literals.{DoneAlias, DoneField, DoneMethod, DoneVal
 use Rattle.obq_windows.specs.Moves.{AreProcHints, are_deep_methods, begin_fields, captured_values, is_deep_method, literal_fields, make_tree, tree_makes}
 use Rattle.obq_windows.specs.Places.{Bound, Place, bound_names, outside_at}
 use Rattle.obq_windows.specs.Trees.{Asks, ExprTask, MethodBody, PendingObject, PlainCloning, PlainField, Silent, Stepped, TreeAct, TreeFrame, TreeHere, TreeMake, TreeRun, ValueBody, alias_of, field_of, push, tree_moved, tree_raises}
-use Rattle.obq_windows.specs.Values.{ClosureValue, ExceptionValue, IntValue, LocationValue, OkayValue, PlainValue, PlainValues, Table, TextValue, ThreadValue, TruthValue, depth_of_values}
+use Rattle.obq_windows.specs.Values.{ClosureValue, ExceptionValue, IntValue, LocationValue, OkayValue, PlainValue, PlainValues, Table, TextValue, ThreadValue, TruthValue, depth_of_values, new_closure}
 use Rattle.obq_windows.specs.Windows.{Activation, NodeAct, NodeFrame, NodeHere, NodeMake, NodeMoved, NodeObject, NodeRun, Store, are_deep_nodes, capture, field_node, fields_node, make_node, method_captures, method_value, node_at, node_fields, node_makes, node_moved, node_raises}
 use Rattle.obq_windows.proofs.Heads.{at_node, expr_head, plain_node}
 use Rattle.obq_windows.proofs.Lists.{item_here}
@@ -43,8 +42,8 @@ module _ {R : Type 0} (T : Table R) (S : Store R) where
 -- a node that is neither a method nor an alias is an operand
 field_plain : {R : Type 0} → (S : Store R) (act : Activation R) (flags : Flags) (done : List (DoneField R ℕ)) (x : Bytes) (names : List Bytes) (child b : ℕ) (ns : List (NodeFrame R)) (behind : NodeMoved R) (a : Node) → plain_node a ≡ true
     → field_node S act flags done x names child b ns behind (Some a) ≡ node_moved Silent act (NodeObject flags done x None names (S.end act.code child) b ∷ ns) (NodeRun child b)
-field_plain S act flags done x names child b ns behind (n.Meth number from) e = absurd (true_false (sym e))
-field_plain S act flags done x names child b ns behind (n.Alias y) e = absurd (true_false (sym e))
+field_plain S act flags done x names child b ns behind (n.Meth number from) e = absurd (true≢false (sym e))
+field_plain S act flags done x names child b ns behind (n.Alias y) e = absurd (true≢false (sym e))
 field_plain S act flags done x names child b ns behind a e = refl
 
 pub fields_alike : {R : Type 0} → (T : Table R) (S : Store R) → Agrees T S → (act : Activation R) (b : ℕ) (bound : List (Bound R)) → IsBound act b bound → (ns : List (NodeFrame R)) (fs : List (TreeFrame R)) → FramesAre T S act b ns fs → (flags : Flags) (nodes : List (DoneField R ℕ)) (done : List (DoneField R ProcedureTree)) (child : ℕ) (fields : FieldTrees)
@@ -135,8 +134,8 @@ module _ {R : Type 0} (T : Table R) (S : Store R) (act : Activation R) (b : ℕ)
             ∙ ap (λ (c : Bool). is_deep_method T (place_at act bound) (AProc params block place) || c) k.deep;
         fields = λ t c.
             ap (λ (o : Option Node). field_of x (MethodBody (method_value S act t c o)) ∷ node_fields S act t (suc c) h.1) (node_is (AProc params block place) h.0 h.3)
-            ∙ ap (λ (vs : PlainValues R). field_of x (MethodBody (ClosureValue t c (h.3.nodes.0 ∷ []) 0 vs)) ∷ node_fields S act t (suc c) h.1) (captures (AProc params block place))
-            ∙ ap (λ l. field_of x (MethodBody (ClosureValue t c (h.3.nodes.0 ∷ []) 0 (captured_values T (place_at act bound) (captured_by (outside_at T (place_at act bound)) (bound_names bound) (AProc params block place))))) ∷ l) (k.fields t (suc c));
+            ∙ ap (λ (vs : PlainValues R). field_of x (MethodBody (new_closure t c (h.3.nodes.0 ∷ []) 0 vs)) ∷ node_fields S act t (suc c) h.1) (captures (AProc params block place))
+            ∙ ap (λ l. field_of x (MethodBody (new_closure t c (h.3.nodes.0 ∷ []) 0 (captured_values T (place_at act bound) (captured_by (outside_at T (place_at act bound)) (bound_names bound) (AProc params block place))))) ∷ l) (k.fields t (suc c));
       })
 
 pub make_alike : {R : Type 0} → (T : Table R) (S : Store R) (thread count : ℕ) (act : Activation R) (b : ℕ) (p : Place R) (ns : List (NodeFrame R)) (fs : List (TreeFrame R)) → FramesAre T S act b ns fs → (flags : Flags) (nodes : List (DoneField R ℕ)) (done : List (DoneField R ProcedureTree)) (k : DoneAlike T S act p nodes done)

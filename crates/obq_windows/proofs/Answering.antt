@@ -1,6 +1,6 @@
 -- What an act leaves at its form.
 use Rattle.std.specs.Prelude.{Bool, List, None, Option, Some, [], false, is_some, length, refl, slice_get, suc, true, unwrap_or, ℕ, ◌++◌, ◌∷◌, ◌≡◌}
-use Rattle.std.proofs.Common.{ap, subst, sym, ◌∙◌}
+use Rattle.std.proofs.Common.{ap, subst, sym, ◌∙◌, true≢false}
 use Rattle.obq_base.specs.Tree.{AnItem, NoItems}
 use Rattle.obq_base.specs.declared.code.Code.{Code}
 use Rattle.obq_base.specs.declared.code.CodeNo.{CodeNo}
@@ -12,7 +12,6 @@ use Rattle.obq_model.specs.Put.{enter}
 use Rattle.obq_model.specs.Resolved.{IsNumbered}
 use Rattle.obq_model.specs.Step.{Frame, Operation, body_with, find, plug, self_at, testing}
 use Rattle.obq_model.specs.Terms.{Const, EachIn, End, Form, Object, Okay, Part, Term}
-use Rattle.obq_model.proofs.Among.{true_false}
 use Rattle.obq_model.proofs.Plug.{plug_append}
 use Rattle.obq_windows.specs.Acts.{AnswerCalled, AnswerForm, AnswerMethod, AnswerRaising, AnswerTest, AnswerValue, AnswersRead, CompleteAnswer, HasParameters, PlainAnswer, SelfIsOwn, Takes, answer_node, answer_tree, enter_node_code, enter_node_value, enter_tree, enter_tree_code, enter_tree_value, left_by, scope_of, test_at_node, test_at_tree, value_at_node, value_at_tree}
 use Rattle.obq_windows.specs.Agrees.{AfterIs, Agrees, FocusIs, FrameIs, FramesAre, Same, StandsAt, act_behind, height_behind}
@@ -20,8 +19,8 @@ use Rattle.obq_windows.specs.Complete.{AllComplete, CompleteAfter, CompleteFocus
 use Rattle.obq_windows.specs.Moves.{begin_vars}
 use Rattle.obq_windows.specs.Places.{Place, bind_of, outside_at, place_of, with_bound, zipped}
 use Rattle.obq_windows.specs.Trees.{BlockTask, ExprTask, GuardScope, ItemsTask, NameScope, NoScope, PendingCalled, PendingEach, PendingForm, PendingTesting, PendingWithin, PlainAgain, PlainBroadcast, PlainCloning, PlainEachItem, PlainEachSize, PlainExport, PlainForkOff, PlainGet, PlainGiveUp, PlainImport, PlainInvoke, PlainItemOf, PlainJoin, PlainLeave, PlainLineUp, PlainNewArray, PlainNewCondition, PlainNewEngine, PlainNewVariable, PlainOperation, PlainRead, PlainRedirect, PlainRunEngine, PlainSetAlias, PlainSetItem, PlainSetMethod, PlainSetValue, PlainSetVariable, PlainSignal, PlainSize, PlainWrite, ScopeKind, Silent, TreeAct, TreeAfter, TreeCall, TreeFocus, TreeFrame, TreeHere, TreeMake, TreeMethod, TreeMoved, TreeRaising, TreeRun, TreeScope, TreeTest, TreeUnder, TreeUnmet, TreeValue, act_form, block_at, expr_at, frames_of, kind_of, names_at, pending_frames, push, read_operation, scope_after, scope_at, term_of, tree_moved, vars_at}
-use Rattle.obq_windows.specs.Values.{ClosureValue, ExceptionValue, IntValue, LocationValue, NoValues, OkayValue, PlainValue, Table, TextValue, ThreadValue, TruthValue, closure_of, proc_named, read_all, read_value, read_values}
-use Rattle.obq_windows.specs.Windows.{Activation, NodeAct, NodeAfter, NodeCalled, NodeEach, NodeFocus, NodeFrame, NodeMoved, NodeRun, NodeTesting, NodeWithin, Store, activation_of, bind, node_moved, vars_node}
+use Rattle.obq_windows.specs.Values.{ClosureValue, ExceptionValue, IntValue, LocationValue, NoValues, OkayValue, PlainValue, Table, TextValue, ThreadValue, TruthValue, closure_of, no_origin, proc_named, read_all, read_value, read_values}
+use Rattle.obq_windows.specs.Windows.{Activation, Enters, NodeAct, NodeAfter, NodeCalled, NodeEach, NodeFocus, NodeFrame, NodeMoved, NodeRun, NodeTesting, NodeWithin, Store, activation_of, bind, node_changed, node_moved, vars_node}
 use Rattle.obq_windows.proofs.Acts.{Asked, act_asks}
 use Rattle.obq_windows.proofs.AlikeCalls.{at_entry}
 use Rattle.obq_windows.proofs.AlikeGives.{item_alike, var_alike}
@@ -52,7 +51,7 @@ pub record AtAct {R : Type 0} (T : Table R) (S : Store R) (act : Activation R) (
   pub is_after : AfterIs T S act b na after
 
 not_act : {R : Type 0} {A : Type 0} → (op : PlainOperation R) (na : NodeAfter) (nf : NodeFocus R) → operation_at nf ≡ None → NodeAct op na ≡ nf → A
-not_act op na nf e h = absurd (true_false (ap (λ z. is_some (operation_at z)) h ∙ ap is_some e))
+not_act op na nf e h = absurd (true≢false (ap (λ z. is_some (operation_at z)) h ∙ ap is_some e))
 
 pub at_act : {R : Type 0} → (T : Table R) (S : Store R) (act : Activation R) (b : ℕ) (op : PlainOperation R) (na : NodeAfter) (focus : TreeFocus R) → FocusIs T S act b (NodeAct op na) focus → AtAct T S act b op na focus
 at_act T S act b op na (TreeRun p (ExprTask e)) h = not_act op na _ refl h.1
@@ -86,9 +85,9 @@ has_no_scope kind = false
 -- where the answer goes in place
 no_scope : {R : Type 0} → (T : Table R) (op : PlainOperation R) (after : TreeAfter R) → kind_of op ≡ NoScope → CompleteAfter T op after → scope_after T after ≡ Const Okay
 no_scope T op TreeHere e l = refl
-no_scope T op (TreeUnder p x bs is) e l = absurd (true_false (ap has_no_scope (sym e ∙ l.1)))
-no_scope T op (TreeTest p x) e l = absurd (true_false (ap has_no_scope (sym e ∙ l.1)))
-no_scope T op (TreeScope p x b) e l = absurd (true_false (ap has_no_scope (sym e ∙ l.1)))
+no_scope T op (TreeUnder p x bs is) e l = absurd (true≢false (ap has_no_scope (sym e ∙ l.1)))
+no_scope T op (TreeTest p x) e l = absurd (true≢false (ap has_no_scope (sym e ∙ l.1)))
+no_scope T op (TreeScope p x b) e l = absurd (true≢false (ap has_no_scope (sym e ∙ l.1)))
 
 -- the scope of a form is that of its operation
 scope_is : {R : Type 0} → (T : Table R) (op : PlainOperation R) (after : TreeAfter R) → CompleteAfter T op after → scope_of (read_operation T op (scope_after T after)) ≡ scope_after T after
@@ -140,7 +139,7 @@ pub record Answered {R : Type 0} (T : Table R) (S : Store R) (m : NodeMoved R) (
 -- a new variable goes under its name
 variable_answered : {R : Type 0} → (T : Table R) (S : Store R) → Agrees T S → (act : Activation R) (b : ℕ) (ns : List (NodeFrame R)) (fs : List (TreeFrame R)) → FramesAre T S act b ns fs → CompleteFrames T fs → (u : PlainValue R) (na : NodeAfter) (after : TreeAfter R) → AfterIs T S act b na after → CompleteAfter T (PlainNewVariable u) after
     → (v : PlainValue R) → IsComplete T v → Answered T S (value_at_node S (PlainNewVariable u) na v act ns) (value_at_tree (PlainNewVariable u) after v fs) (plug (frames_of T fs) (enter (read_value T v ∷ []) (scope_after T after)))
-variable_answered {R} T S g act b ns fs fr k u na TreeHere h l v c = absurd (true_false (ap has_no_scope (sym l)))
+variable_answered {R} T S g act b ns fs fr k u na TreeHere h l v c = absurd (true≢false (ap has_no_scope (sym l)))
 variable_answered {R} T S g act b ns fs fr k u na (TreeUnder p x bs is) h l v c =
     subst (λ (z : NodeAfter). Answered T S (value_at_node S (PlainNewVariable u) z v act ns) (begin_vars Silent (with_bound p (bind_of x v ∷ [])) bs is fs) (plug (frames_of T fs) (enter (read_value T v ∷ []) (vars_at T p x bs is)))) (sym h.2)
     (record {
@@ -150,15 +149,15 @@ variable_answered {R} T S g act b ns fs fr k u na (TreeUnder p x bs is) h l v c 
       complete = vars_kept T Silent (with_bound p (bind_of x v ∷ [])) bs is fs (place_more T p (bind_of x v ∷ []) l.0 (c, tt)) k;
       term = sym (whole T fs _ _ _ (vars_start T fs Silent (with_bound p (bind_of x v ∷ [])) bs is).leads) ∙ ap (plug (frames_of T fs)) (sym (var_given T p x v bs is));
     })
-variable_answered {R} T S g act b ns fs fr k u na (TreeScope p x block) h l v c = absurd (true_false (ap has_a_name l.1))
-variable_answered {R} T S g act b ns fs fr k u na (TreeTest p e) h l v c = absurd (true_false (ap has_a_name l.1))
+variable_answered {R} T S g act b ns fs fr k u na (TreeScope p x block) h l v c = absurd (true≢false (ap has_a_name l.1))
+variable_answered {R} T S g act b ns fs fr k u na (TreeTest p e) h l v c = absurd (true≢false (ap has_a_name l.1))
 
 -- an item goes under the name of its `foreach`
 item_answered : {R : Type 0} → (T : Table R) (S : Store R) → Agrees T S → (act : Activation R) (b : ℕ) (ns : List (NodeFrame R)) (fs : List (TreeFrame R)) → FramesAre T S act b ns fs → CompleteFrames T fs → (r : R) (i n : ℕ) (na : NodeAfter) (after : TreeAfter R) → AfterIs T S act b na after → CompleteAfter T (PlainEachItem r i n) after
     → (v : PlainValue R) → IsComplete T v → Answered T S (value_at_node S (PlainEachItem r i n) na v act ns) (value_at_tree (PlainEachItem r i n) after v fs) (plug (frames_of T fs) (Form (EachIn r i n) (Part (enter (read_value T v ∷ []) (scope_after T after)) (Part (scope_after T after) End))))
-item_answered T S g act b ns fs fr k r i n na TreeHere h l v c = absurd (true_false (ap has_no_scope (sym l)))
-item_answered T S g act b ns fs fr k r i n na (TreeUnder p x bs is) h l v c = absurd (true_false (ap has_a_name (sym l.1)))
-item_answered T S g act b ns fs fr k r i n na (TreeTest p e) h l v c = absurd (true_false (ap has_a_guard (sym l.1)))
+item_answered T S g act b ns fs fr k r i n na TreeHere h l v c = absurd (true≢false (ap has_no_scope (sym l)))
+item_answered T S g act b ns fs fr k r i n na (TreeUnder p x bs is) h l v c = absurd (true≢false (ap has_a_name (sym l.1)))
+item_answered T S g act b ns fs fr k r i n na (TreeTest p e) h l v c = absurd (true≢false (ap has_a_guard (sym l.1)))
 item_answered {R} T S g act b ns fs fr k r i n na (TreeScope p x block) h l v c =
     subst (λ (z : NodeAfter). Answered T S (value_at_node S (PlainEachItem r i n) z v act ns) (tree_moved Silent (push p (PendingEach r i n x block) fs) (TreeRun (with_bound p (bind_of x v ∷ [])) (BlockTask block))) (plug (frames_of T fs) (Form (EachIn r i n) (Part (enter (read_value T v ∷ []) (scope_at T p x block)) (Part (scope_at T p x block) End))))) (sym h.1)
     (record {
@@ -206,9 +205,9 @@ value_answered T S g act b ns fs fr k (PlainNewVariable u) na after h l v c = va
 -- a watch that has taken the mutex again
 again_answered : {R : Type 0} → (T : Table R) (S : Store R) (act : Activation R) (b : ℕ) (ns : List (NodeFrame R)) (fs : List (TreeFrame R)) → FramesAre T S act b ns fs → CompleteFrames T fs → (o c : R) (na : NodeAfter) (after : TreeAfter R) → AfterIs T S act b na after → CompleteAfter T (PlainAgain o c) after
     → Answered T S (test_at_node (PlainAgain o c) na act ns) (test_at_tree (PlainAgain o c) after fs) (plug (frames_of T fs) (testing o c (scope_after T after)))
-again_answered T S act b ns fs fr k o c na TreeHere h l = absurd (true_false (ap has_no_scope (sym l)))
-again_answered T S act b ns fs fr k o c na (TreeUnder p x bs is) h l = absurd (true_false (ap has_a_name (sym l.1)))
-again_answered T S act b ns fs fr k o c na (TreeScope p x block) h l = absurd (true_false (ap has_a_guard l.1))
+again_answered T S act b ns fs fr k o c na TreeHere h l = absurd (true≢false (ap has_no_scope (sym l)))
+again_answered T S act b ns fs fr k o c na (TreeUnder p x bs is) h l = absurd (true≢false (ap has_a_name (sym l.1)))
+again_answered T S act b ns fs fr k o c na (TreeScope p x block) h l = absurd (true≢false (ap has_a_guard l.1))
 again_answered {R} T S act b ns fs fr k o c na (TreeTest p e) h l =
     subst (λ (z : NodeAfter). Answered T S (test_at_node (PlainAgain o c) z act ns) (tree_moved Silent (push p (PendingTesting o c e) fs) (TreeRun p (ExprTask e))) (plug (frames_of T fs) (testing o c (expr_at T p e)))) (sym h.1)
     (record {
@@ -263,11 +262,11 @@ pub record Caller {R : Type 0} (T : Table R) (S : Store R) (act : Activation R) 
 pub entered_answer : {R : Type 0} → (T : Table R) (S : Store R) → Agrees T S → (act : Activation R) (b : ℕ) (ns : List (NodeFrame R)) (fs : List (TreeFrame R)) → FramesAre T S act b ns fs → CompleteFrames T fs → (f : NodeFrame R) (pending : PendingForm R) → Caller T S act f pending → (around : Place R)
     → (m : PlainValue R) (vs : List (PlainValue R)) → IsComplete T m → AllComplete T vs → Takes T m vs
     → Answered T S (enter_node_value f m vs act ns) (enter_tree_value T pending m vs fs) (plug (frames_of T fs) (plug (pending_frames T around pending) (body_with (read_value T m) (read_all T vs))))
-entered_answer {R} T S g act b ns fs fr k f pending caller around (ClosureValue thread count group index cs) vs c d t = by_code (slice_get group index) c.0 t where
+entered_answer {R} T S g act b ns fs fr k f pending caller around (ClosureValue origin count group index cs) vs c d t = by_code (slice_get group index) c.0 t where
   by_store : (number : CodeNo) (o : Option Proc) → T.procs number ≡ o → (z : Option Code) → S.code number ≡ z → IsCodeAt T.procs number z → Knows group cs o → HasParameters o (length vs)
-      → Answered T S (node_moved Silent (activation_of number thread count group cs vs) (f ∷ ns) (NodeRun 0 (length vs))) (enter_tree pending thread count group number cs o vs fs) (plug (frames_of T fs) (plug (pending_frames T around pending) (body_with (closure_of T (read_values T cs) o) (read_all T vs))))
+      → Answered T S (node_changed Enters (node_moved Silent (activation_of number origin count group cs vs) (f ∷ ns) (NodeRun 0 (length vs)))) (enter_tree pending origin count group number cs o vs fs) (plug (frames_of T fs) (plug (pending_frames T around pending) (body_with (closure_of T (read_values T cs) o) (read_all T vs))))
   by_store number None e z ce ic kn l = absurd kn
-  by_store number (Some q) e None ce ic kn l = absurd (true_false (ap is_some (sym e ∙ ic)))
+  by_store number (Some q) e None ce ic kn l = absurd (true≢false (ap is_some (sym e ∙ ic)))
   by_store number (Some q) e (Some code) ce (q2, ic) kn l =
       let same : q2 ≡ q = ap (λ (o : Option Proc). unwrap_or o q) (sym ic.proc_is ∙ e) in
       record {
@@ -282,22 +281,22 @@ entered_answer {R} T S g act b ns fs fr k f pending caller around (ClosureValue 
             caller.is_frame _ _ _,
             subst (λ (z : Activation R). FramesAre T S z (height_behind (length vs) f) ns fs) (sym (caller.back _)) (subst (λ (n : ℕ). FramesAre T S act n ns fs) (sym (caller.low _)) (frames_full T S act b ns fs fr)),
           );
-          focus = at_entry T S thread count group number cs vs code q ce (subst (λ (z : Proc). IsNumbered T.procs number code z) same ic) l;
+          focus = at_entry T S origin count group number cs vs code q ce (subst (λ (z : Proc). IsNumbered T.procs number code z) same ic) l;
         };
         complete = record {
           frames = (place_complete number q e kn, caller.complete, k);
           focus = place_complete number q e kn;
         };
         term =
-            plug_append (frames_of T fs) (pending_frames T (place_of number thread count group cs (zipped q.params vs)) pending) _
-            ∙ ap (λ (gs : List (Frame R)). plug (frames_of T fs) (plug gs (block_at T (place_of number thread count group cs (zipped q.params vs)) q.body))) (caller.same_frames (place_of number thread count group cs (zipped q.params vs)) around)
-            ∙ ap (λ (u : Term R). plug (frames_of T fs) (plug (pending_frames T around pending) u)) (sym (body_right T thread count group number cs q vs (made_of T S g) e l q.group refl));
+            plug_append (frames_of T fs) (pending_frames T (place_of number origin count group cs (zipped q.params vs)) pending) _
+            ∙ ap (λ (gs : List (Frame R)). plug (frames_of T fs) (plug gs (block_at T (place_of number origin count group cs (zipped q.params vs)) q.body))) (caller.same_frames (place_of number origin count group cs (zipped q.params vs)) around)
+            ∙ ap (λ (u : Term R). plug (frames_of T fs) (plug (pending_frames T around pending) u)) (sym (body_right T origin count group number cs q vs (made_of T S g) e l q.group refl));
       } where
-        place_complete : (number : CodeNo) (q : Proc) → T.procs number ≡ Some q → Knows group cs (Some q) → CompletePlace T (place_of number thread count group cs (zipped q.params vs))
-        place_complete number q e kn = record { known = subst (λ (o : Option Proc). Knows group cs o) (sym e) kn; captured = c.1; bound = zipped_complete T q.params vs d }
+        place_complete : (number : CodeNo) (q : Proc) → T.procs number ≡ Some q → Knows group cs (Some q) → CompletePlace T (place_of number origin count group cs (zipped q.params vs))
+        place_complete number q e kn = record { known = subst (λ (o : Option Proc). Knows group cs o) (sym e) kn; captured = c.1; depth = c.2; bound = zipped_complete T q.params vs d }
 
   by_code : (o : Option CodeNo) → Knows group cs (proc_named T o) → HasParameters (proc_named T o) (length vs)
-      → Answered T S (enter_node_code f thread count group o cs vs act ns) (enter_tree_code T pending thread count group o cs vs fs) (plug (frames_of T fs) (plug (pending_frames T around pending) (body_with (closure_of T (read_values T cs) (proc_named T o)) (read_all T vs))))
+      → Answered T S (enter_node_code f origin count group o cs vs act ns) (enter_tree_code T pending origin count group o cs vs fs) (plug (frames_of T fs) (plug (pending_frames T around pending) (body_with (closure_of T (read_values T cs) (proc_named T o)) (read_all T vs))))
   by_code None kn l = absurd kn
   by_code (Some number) kn l = by_store number (T.procs number) refl (S.code number) refl (g.code number) kn l
 entered_answer T S g act b ns fs fr k f pending caller around (IntValue z) vs c d t = absurd t
@@ -318,9 +317,9 @@ answered T S g act b ns fs fr k op na after h l (AnswerForm p) c = record {
   term = ap (λ (u : Term _). plug (frames_of T fs) (act_form T p u)) (sym (scope_is T op after l));
 }
 answered {R} T S g act b ns fs fr k op na after h l (AnswerMethod o m f vs) c =
-    entered_answer T S g act b ns fs fr k (NodeWithin act o m) (PendingWithin o m) (record { is_frame = λ z n p. (act, refl); back = λ z. refl; low = λ n. refl; complete = tt; same_frames = λ p q. refl }) (place_of (record { source = 0; n = 0 }) 0 0 [] NoValues []) f (LocationValue Object o ∷ vs) c.0 (tt, c.1) c.2
+    entered_answer T S g act b ns fs fr k (NodeWithin act o m) (PendingWithin o m) (record { is_frame = λ z n p. (act, refl); back = λ z. refl; low = λ n. refl; complete = tt; same_frames = λ p q. refl }) (place_of (record { source = 0; n = 0 }) no_origin 0 [] NoValues []) f (LocationValue Object o ∷ vs) c.0 (tt, c.1) c.2
 answered {R} T S g act b ns fs fr k op na after h l (AnswerCalled f vs) c =
-    entered_answer T S g act b ns fs fr k (NodeCalled act) PendingCalled (record { is_frame = λ z n p. (act, refl); back = λ z. refl; low = λ n. refl; complete = tt; same_frames = λ p q. refl }) (place_of (record { source = 0; n = 0 }) 0 0 [] NoValues []) f vs c.0 c.1 c.2
+    entered_answer T S g act b ns fs fr k (NodeCalled act) PendingCalled (record { is_frame = λ z n p. (act, refl); back = λ z. refl; low = λ n. refl; complete = tt; same_frames = λ p q. refl }) (place_of (record { source = 0; n = 0 }) no_origin 0 [] NoValues []) f vs c.0 c.1 c.2
 answered T S g act b ns fs fr k op na after h l (AnswerValue v) c = value_answered T S g act b ns fs fr k op na after h l v c
 
 pub answers_read : {R : Type 0} → AnswersRead R

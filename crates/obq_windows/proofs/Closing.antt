@@ -1,6 +1,6 @@
 -- A closure that is made: what it captures is what its body reads.
 use Rattle.std.specs.Prelude.{Bool, List, None, Option, Some, [], bytes_eq, codes, drop, false, if◌then◌else◌, is_some, nat_lt, option_map, refl, suc, true, ℕ, ◌++◌, ◌||◌, ◌∷◌, ◌≡◌}
-use Rattle.std.proofs.Common.{ap, sym, ◌∙◌}
+use Rattle.std.proofs.Common.{ap, sym, ◌∙◌, true≢false}
 use Rattle.std.proofs.lemmas.Slice.Eq.{bytes_eq-Decides}
 use Rattle.obq_base.specs.Tree.{AProc, ARecBind, AnItem, BlockTree, ItemTrees, LetRecItem, NoItems, NoRecBinds, ProcTree, ProcedureTree, RecBindTrees}
 use Rattle.obq_base.specs.declared.code.CodeNo.{CodeNo}
@@ -17,7 +17,7 @@ use Rattle.obq_model.specs.Reading.{Env, hide, or_some, read, read_parts, with_a
 use Rattle.obq_model.specs.Scopes.{Outside, captured_of, inside, is_covered, last_place, last_place_from}
 use Rattle.obq_model.specs.Step.{Needs, Next, Self, Set, activations_at, find, plug, self_at}
 use Rattle.obq_model.specs.Terms.{Array, Bytes, Closure, Condition, Const, End, Engine, Form, IsMethod, Loc, Member, Object, Part, Parts, SetMethod, Term, Under, Value, Variable, Writer}
-use Rattle.obq_model.proofs.Among.{bytes_sym, true_false}
+use Rattle.obq_model.proofs.Among.{bytes_sym}
 use Rattle.obq_model.proofs.Occurring.{Only, captured_covered, only_block}
 use Rattle.obq_model.proofs.Places.{among_place, or_else, place_found}
 use Rattle.obq_model.proofs.Substitution.{agree_read, members_read}
@@ -25,7 +25,7 @@ use Rattle.obq_windows.specs.Meanings.{Moves}
 use Rattle.obq_windows.specs.Moves.{IsGroupHint, IsProcHint, begin_letrec, begin_proc, begin_rest, captured_values, letrec_parts, member_values, method_tree, set_method_tree, tree_closed, value_or_okay}
 use Rattle.obq_windows.specs.Places.{Bound, Place, bound_names, env_at, last_bound, member_at, or_this, outside_at, proc_group, proc_outside, value_in, value_of, with_bound, writer_at}
 use Rattle.obq_windows.specs.Trees.{Asks, ItemsTask, PlainSetMethod, Stepped, Tag, TreeAct, TreeFrame, TreeHere, TreeMethod, TreeRun, TreeValue, body_at, expr_at, frames_of, items_at, method_of, names_at, term_of, tree_made, tree_moved, tree_raises}
-use Rattle.obq_windows.specs.Values.{ClosureValue, ExceptionValue, IntValue, IsMadeTable, LocationValue, OkayValue, PlainValue, PlainValues, Table, TextValue, ThreadValue, TruthValue, captured_at, captured_env, closure_of, group_of, member_part, no_env, padded, proc_named, proc_of, read_value, read_values}
+use Rattle.obq_windows.specs.Values.{ClosureValue, ExceptionValue, IntValue, IsMadeTable, LocationValue, OkayValue, PlainValue, PlainValues, Table, TextValue, ThreadValue, TruthValue, captured_at, captured_env, closure_of, group_of, member_part, new_closure, no_env, padded, proc_named, proc_of, read_value, read_values}
 use Rattle.obq_windows.proofs.Around.{Starts, asks, here, stepped, to_here}
 use Rattle.obq_windows.proofs.Calls.{members_none, members_some}
 use Rattle.obq_windows.proofs.Envs.{fun_eq, others}
@@ -83,7 +83,7 @@ closing_agrees {R} T p members us params t h = agree_read t _ _ (λ x o. at x (a
       ∙ sym (ap (λ (c : Bool). if c then Some (read_value T (value_or_okay (value_of T p x))) else None) e)
       ∙ sym (captured_in T p x (captured_of (outside_at T p) (names_at p) us)) where
         some : (o : Option (PlainValue R)) → is_some o ≡ true → option_map (read_value T) o ≡ Some (read_value T (value_or_okay o))
-        some None q = absurd (true_false (sym q))
+        some None q = absurd (true≢false (sym q))
         some (Some v) q = refl
 
   at : (x : Bytes) (c : Bool) → among x params ≡ c → (d : Bool) → among x members ≡ d → (among x params || (among x members || among x (captured_of (outside_at T p) (names_at p) us))) ≡ true
@@ -109,10 +109,10 @@ proc_begins eq T a s thread count [] p q fs h = absurd h
 proc_begins {R} eq T a s thread count (number ∷ numbers) p (AProc params b place) fs h = at (is_too_deep (read (hide params (env_at T p)) (open_block (writer_at T p) (inside (outside_at T p) [] (captured_by (outside_at T p) (names_at p) (AProc params b place))) params b))) refl where
   at : (d : Bool) → is_too_deep (read (hide params (env_at T p)) (open_block (writer_at T p) (inside (outside_at T p) [] (captured_by (outside_at T p) (names_at p) (AProc params b place))) params b)) ≡ d
       → Moves eq T a s (plug (frames_of T fs) (expr_at T p (ProcTree (AProc params b place))))
-      (if d then tree_moved Stepped fs (tree_raises (codes "closure_limit")) else tree_made fs (TreeValue (ClosureValue thread count (number ∷ []) 0 (captured_values T p (captured_by (outside_at T p) (names_at p) (AProc params b place))))))
+      (if d then tree_moved Stepped fs (tree_raises (codes "closure_limit")) else tree_made fs (TreeValue (new_closure thread count (number ∷ []) 0 (captured_values T p (captured_by (outside_at T p) (names_at p) (AProc params b place))))))
   at true e = to_here eq T a s fs _ (tree_raises (codes "closure_limit")) (ap (λ (d : Bool). Next (if d then closure_limit else Const (Closure params (read (hide params (env_at T p)) (open_block (writer_at T p) (inside (outside_at T p) [] (captured_by (outside_at T p) (names_at p) (AProc params b place))) params b))))) e)
   at false e =
-      to_here eq T a s fs _ (TreeValue (ClosureValue thread count (number ∷ []) 0 (captured_values T p (captured_by (outside_at T p) (names_at p) (AProc params b place)))))
+      to_here eq T a s fs _ (TreeValue (new_closure thread count (number ∷ []) 0 (captured_values T p (captured_by (outside_at T p) (names_at p) (AProc params b place)))))
       (ap (λ (d : Bool). Next (if d then closure_limit else Const (Closure params (read (hide params (env_at T p)) (open_block (writer_at T p) (inside (outside_at T p) [] (captured_by (outside_at T p) (names_at p) (AProc params b place))) params b))))) e
       ∙ sym (ap (λ (m : Value R). Next (Const m)) (made_read T number numbers p params b place h)))
 
@@ -150,10 +150,10 @@ members_bound {R} T u c2 g (number ∷ numbers) i (ARecBind x q place bs) thread
       one = ap (λ (o : Option CodeNo). closure_of T (read_values T cs) (proc_named T o)) (item_here (c2 ∷ g) i number numbers d) ∙ ap (closure_of T (read_values T cs)) h.0
 
       first : (c : Bool) (o : Option (PlainValue R)) (m : Option ℕ) → option_map (read_value T) o ≡ option_map (λ k. Member u.members (group_of T u (read_values T cs) (c2 ∷ g)) k) m
-          → option_map (read_value T) (or_this o c (ClosureValue thread count (c2 ∷ g) i cs)) ≡ option_map (λ k. Member u.members (group_of T u (read_values T cs) (c2 ∷ g)) k) (or_else m (if c then Some i else None))
+          → option_map (read_value T) (or_this o c (new_closure thread count (c2 ∷ g) i cs)) ≡ option_map (λ k. Member u.members (group_of T u (read_values T cs) (c2 ∷ g)) k) (or_else m (if c then Some i else None))
       first c (Some v) (Some k) e = e
-      first c (Some v) None e = absurd (true_false (ap is_some e))
-      first c None (Some k) e = absurd (true_false (sym (ap is_some e)))
+      first c (Some v) None e = absurd (true≢false (ap is_some e))
+      first c None (Some k) e = absurd (true≢false (sym (ap is_some e)))
       first true None None e = ap Some one
       first false None None e = refl
 
@@ -181,8 +181,8 @@ group_at {R} T p names G mv h = fun_eq _ _ (λ y. at y (last_place y names) refl
   at y (Some k) e (Some v) f =
       members_none names G 0 names (hide names (env_at T p)) y (ap (λ (c : Bool). if c then None else env_at T p y) (among_place 0 y names ∙ ap is_some e))
       ∙ sym (h y) ∙ ap (option_map (read_value T)) f ∙ sym (ap (λ (o : Option (PlainValue R)). option_map (read_value T) (or_else (or_else o (last_bound y p.bound)) (others T p y))) f)
-  at y (Some k) e None f = absurd (true_false (sym (ap is_some (sym (ap (option_map (read_value T)) f) ∙ h y ∙ ap (option_map (λ k. Member names G k)) e))))
-  at y None e (Some v) f = absurd (true_false (ap is_some (sym (ap (option_map (read_value T)) f) ∙ h y ∙ ap (option_map (λ k. Member names G k)) e)))
+  at y (Some k) e None f = absurd (true≢false (sym (ap is_some (sym (ap (option_map (read_value T)) f) ∙ h y ∙ ap (option_map (λ k. Member names G k)) e))))
+  at y None e (Some v) f = absurd (true≢false (ap is_some (sym (ap (option_map (read_value T)) f) ∙ h y ∙ ap (option_map (λ k. Member names G k)) e)))
   at y None e None f =
       let hidden : hide names (env_at T p) y ≡ env_at T p y = ap (λ (c : Bool). if c then None else env_at T p y) (among_place 0 y names ∙ ap is_some e) in
       outer y (env_at T p y) hidden e
@@ -239,11 +239,11 @@ method_begins {R} eq T a s thread count (number ∷ numbers) p o x (AProc params
   at : (d : Bool) → is_too_deep (read (hide params (env_at T p)) (open_block (writer_at T p) (inside (outside_at T p) [] (captured_by (outside_at T p) (names_at p) (AProc params b place))) params b)) ≡ d
       → Moves eq T a s (plug (frames_of T fs) (Form (SetMethod x) (Part (Const (Loc Object o)) (Part (body_at T p (AProc params b place)) End))))
       (if d then tree_moved Stepped fs (tree_raises (codes "closure_limit"))
-      else tree_closed (tree_moved (Asks (PlainSetMethod o x (ClosureValue thread count (number ∷ []) 0 (captured_values T p (captured_by (outside_at T p) (names_at p) (AProc params b place)))))) fs
-      (TreeAct (PlainSetMethod o x (ClosureValue thread count (number ∷ []) 0 (captured_values T p (captured_by (outside_at T p) (names_at p) (AProc params b place))))) TreeHere)))
+      else tree_closed (tree_moved (Asks (PlainSetMethod o x (new_closure thread count (number ∷ []) 0 (captured_values T p (captured_by (outside_at T p) (names_at p) (AProc params b place)))))) fs
+      (TreeAct (PlainSetMethod o x (new_closure thread count (number ∷ []) 0 (captured_values T p (captured_by (outside_at T p) (names_at p) (AProc params b place))))) TreeHere)))
   at true e = to_here eq T a s fs _ (tree_raises (codes "closure_limit")) (ap (λ (d : Bool). if d then Next closure_limit else Needs (Set o x (IsMethod params (read (hide params (env_at T p)) (open_block (writer_at T p) (inside (outside_at T p) [] (captured_by (outside_at T p) (names_at p) (AProc params b place))) params b)))) []) e)
   at false e =
-      asks eq T a s fs _ (PlainSetMethod o x (ClosureValue thread count (number ∷ []) 0 (captured_values T p (captured_by (outside_at T p) (names_at p) (AProc params b place))))) TreeHere
+      asks eq T a s fs _ (PlainSetMethod o x (new_closure thread count (number ∷ []) 0 (captured_values T p (captured_by (outside_at T p) (names_at p) (AProc params b place))))) TreeHere
       (ap (λ (d : Bool). if d then Next closure_limit else Needs (Set o x (IsMethod params (read (hide params (env_at T p)) (open_block (writer_at T p) (inside (outside_at T p) [] (captured_by (outside_at T p) (names_at p) (AProc params b place))) params b)))) []) e
       ∙ sym (ap (λ (m : Value R). Needs (Set o x (method_of m)) []) (made_read T number numbers p params b place h)))
 

@@ -1,11 +1,12 @@
 -- Names in force, with their values: what binding, entering and capturing do to the environment that a place reads with.
-use Rattle.std.specs.Prelude.{Bool, List, None, Option, Some, T, [], bytes_eq, false, if◌then◌else◌, is_some, length, option_map, refl, suc, true, ℕ, ◌++◌, ◌+◌, ◌||◌, ◌∷◌, ◌≡◌}
-use Rattle.std.proofs.Common.{ap, arith, sym, ◌∙◌}
+use Rattle.std.specs.Prelude.{Bool, List, None, Option, Some, T, [], bytes_eq, false, if◌then◌else◌, length, option_map, refl, suc, true, ℕ, ◌++◌, ◌+◌, ◌||◌, ◌∷◌, ◌≡◌}
+use Rattle.std.proofs.Common.{ap, arith, sym, ◌∙◌, true≢false}
 use Rattle.obq_model.specs.Put.{among}
 use Rattle.obq_model.specs.Reading.{Env, also, hide, or_some, with_all}
 use Rattle.obq_model.specs.Scopes.{Outside, last_place, last_place_from}
 use Rattle.obq_model.specs.Terms.{Bytes, Value}
-use Rattle.obq_model.proofs.Among.{bytes_sym, true_false}
+use Rattle.obq_model.proofs.Among.{bytes_sym}
+use Rattle.obq_model.proofs.Options.{some_none}
 use Rattle.obq_model.proofs.Places.{or_else, place_found}
 use Rattle.obq_windows.specs.Places.{Bound, Place, bind_of, bound_names, env_at, last_bound, member_at, or_this, proc_group, proc_outside, with_bound, zipped}
 use Rattle.obq_windows.specs.Values.{AValue, NoValues, PlainValue, PlainValues, Table, captured_at, captured_env, no_env, padded, read_all, read_value, read_values}
@@ -107,14 +108,11 @@ args_at {R} T y (x ∷ xs) (v ∷ vs) e h =
 
 -- as many arguments as parameters: each parameter has one
 has_argument : {R : Type 0} → (y : Bytes) (xs : List Bytes) (vs : List (PlainValue R)) → length xs ≡ length vs → among y xs ≡ true → last_bound y (zipped xs vs) ≡ None → ⊥
-has_argument y [] vs e q n = absurd (true_false (sym q))
+has_argument y [] vs e q n = absurd (true≢false (sym q))
 has_argument y (x ∷ xs) [] e q n = absurd (zero_suc (length xs) e) where
   zero_suc : (m : ℕ) → suc m ≡ 0 → ⊥
   zero_suc m h = omega (arith, h)
 has_argument {R} y (x ∷ xs) (v ∷ vs) e q n = by_case (bytes_eq x y) refl (last_bound y (zipped xs vs)) refl (has_argument y xs vs (omega (arith, e))) where
-  some_none : {A : Type 0} → (a : A) → Some a ≡ None → ⊥
-  some_none a h = true_false (ap is_some h)
-
   by_case : (c : Bool) → bytes_eq x y ≡ c → (o : Option (PlainValue R)) → last_bound y (zipped xs vs) ≡ o → (among y xs ≡ true → last_bound y (zipped xs vs) ≡ None → ⊥) → ⊥
   by_case true f None g ih = some_none v (sym (ap (λ (o : Option (PlainValue R)). or_this o (bytes_eq x y) v) g ∙ ap (λ c. or_this None c v) f) ∙ n)
   by_case c f (Some w) g ih = some_none w (sym (ap (λ (o : Option (PlainValue R)). or_this o (bytes_eq x y) v) g) ∙ n)

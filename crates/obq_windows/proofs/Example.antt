@@ -13,7 +13,7 @@ use Rattle.obq_model.specs.Terms.{Const, Okay}
 use Rattle.obq_windows.specs.Agrees.{Agrees}
 use Rattle.obq_windows.specs.Laws.{RunReads}
 use Rattle.obq_windows.specs.Runs.{AtBottom, Ran, pure_steps, run_nodes}
-use Rattle.obq_windows.specs.Values.{NoValues, Table}
+use Rattle.obq_windows.specs.Values.{NoValues, Table, no_origin}
 use Rattle.obq_windows.specs.Windows.{NodeRun, Store, activation_of}
 use Rattle.obq_windows.proofs.Openings.{opening_runs}
 
@@ -80,7 +80,7 @@ agree = record {
 -- five pure steps, and the window is at its bottom
 ran : Ran ℕ
 unfolding store nodes end_of
-ran = run_nodes same_loc store 0 no_self 0 40 0 (activation_of (record { source = 0; n = 0 }) 0 0 [] NoValues []) [] (NodeRun 0 0)
+ran = run_nodes same_loc store 0 no_self 0 40 0 (activation_of (record { source = 0; n = 0 }) no_origin 0 [] NoValues []) [] (NodeRun 0 0)
 
 five : ran.steps ≡ 5
 unfolding ran store nodes end_of

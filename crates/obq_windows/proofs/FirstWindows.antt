@@ -24,10 +24,10 @@ read_window T S m t u k = record {
 
 -- the place of a closure's own activation without arguments is complete
 bottom_complete : {R : Type 0} → (T : Table R) (f : PlainValue R) (vs : List (PlainValue R)) → IsComplete T f → Takes T f vs → CompletePlace T (place_at (bottom_activation f) [])
-bottom_complete {R} T (ClosureValue thread count group index captured) vs h k = by_code (slice_get group index) h.0 where
-  by_code : (o : Option CodeNo) → Knows group captured (proc_named T o) → CompletePlace T (place_at (activation_in thread count group captured o) [])
+bottom_complete {R} T (ClosureValue origin count group index captured) vs h k = by_code (slice_get group index) h.0 where
+  by_code : (o : Option CodeNo) → Knows group captured (proc_named T o) → CompletePlace T (place_at (activation_in origin count group captured o) [])
   by_code None l = absurd l
-  by_code (Some number) l = record { known = l; captured = h.1; bound = tt }
+  by_code (Some number) l = record { known = l; captured = h.1; depth = h.2; bound = tt }
 bottom_complete T (IntValue z) vs h k = absurd k
 bottom_complete T (TruthValue z) vs h k = absurd k
 bottom_complete T OkayValue vs h k = absurd k

@@ -1,7 +1,7 @@
 -- The node that an expression begins with.
 use Rattle.std.specs.Prelude.{Bool, List, None, Option, Some, false, refl, suc, true, ℕ, ◌≡◌}
 use Rattle.obq_base.specs.declared.code.Node.TheVariants as n
-use Rattle.std.proofs.Common.{subst, sym}
+use Rattle.std.proofs.Common.{subst, sym, true≢false}
 use Rattle.obq_base.specs.Tree.{ArrayTree, ChainTree, CloneTree, ExitTree, ExprTree, FinallyTree, ForTree, ForeachTree, IfTree, IntTree, LoopTree, NameTree, ObjectTree, OkTree, ProcTree, RaiseTree, RedirectTree, SuffixedTree, TextTree, TruthTree, TryTree, WatchTree}
 use Rattle.obq_base.specs.declared.code.CodeNo.{CodeNo}
 use Rattle.obq_base.specs.declared.code.Node.{Node}
@@ -9,7 +9,6 @@ use Rattle.obq_model.specs.CodeLaws.{nodes_of}
 use Rattle.obq_model.specs.Draft.{Both, Plain, behind_first, called_row, captured_by, count_arms, count_exprs, count_suffixes, draft_expr, draft_suffixes, field_names, has_block, operators_of}
 use Rattle.obq_model.specs.Scopes.{Outside, slot_of, slots_of}
 use Rattle.obq_model.specs.Terms.{Bytes}
-use Rattle.obq_model.proofs.Among.{true_false}
 use Rattle.obq_windows.specs.Agrees.{Same, StandsAt}
 use Rattle.obq_windows.specs.Trees.{Silent, TreeMoved}
 use Rattle.obq_windows.specs.Values.{Table}
@@ -67,14 +66,14 @@ expr_head {R} T S number u names at (SuffixedTree e ss) h = at_row (called_row u
   at_row (Some r) h = record { node = n.Suffixes (count_suffixes (behind_first ss)); there = node_here T S h; plain = refl }
 
 pub suffixes_plain : {R : Type 0} → (S : Store R) (k : ℕ) (act : Activation R) (ns : List (NodeFrame R)) (at m b : ℕ) (a : Node) → plain_node a ≡ true → suffixes_node S k act ns at m b (Some a) ≡ node_moved Silent act (with_suffix (S.end act.code (suc at)) m b ns) (NodeRun (suc at) b)
-suffixes_plain S k act ns at m b (n.Builtin r args) e = absurd (true_false (sym e))
+suffixes_plain S k act ns at m b (n.Builtin r args) e = absurd (true≢false (sym e))
 suffixes_plain S k act ns at m b a e = refl
 
 pub item_plain : {R : Type 0} → (S : Store R) (k thread count : ℕ) (act : Activation R) (ns : List (NodeFrame R)) (at left b : ℕ) (a : Node) → plain_node a ≡ true → item_node S k thread count act ns at left b (Some a) ≡ begin_node S k thread count act (with_item (S.end act.code at) left b ns) at b (Some a)
-item_plain S k thread count act ns at left b (n.Let binds) e = absurd (true_false (sym e))
-item_plain S k thread count act ns at left b (n.Var binds) e = absurd (true_false (sym e))
-item_plain S k thread count act ns at left b (n.LetRec numbers from) e = absurd (true_false (sym e))
-item_plain S k thread count act ns at left b (n.Assign slot) e = absurd (true_false (sym e))
-item_plain S k thread count act ns at left b (n.SetField name) e = absurd (true_false (sym e))
-item_plain S k thread count act ns at left b n.SetItem e = absurd (true_false (sym e))
+item_plain S k thread count act ns at left b (n.Let binds) e = absurd (true≢false (sym e))
+item_plain S k thread count act ns at left b (n.Var binds) e = absurd (true≢false (sym e))
+item_plain S k thread count act ns at left b (n.LetRec numbers from) e = absurd (true≢false (sym e))
+item_plain S k thread count act ns at left b (n.Assign slot) e = absurd (true≢false (sym e))
+item_plain S k thread count act ns at left b (n.SetField name) e = absurd (true≢false (sym e))
+item_plain S k thread count act ns at left b n.SetItem e = absurd (true≢false (sym e))
 item_plain S k thread count act ns at left b a e = refl

@@ -1,5 +1,5 @@
 -- The fields of an object literal are complete where its operands are.
-use Rattle.std.specs.Prelude.{List, None, Option, Some, [], suc, ℕ, ◌++◌, ◌<◌, ◌∷◌}
+use Rattle.std.specs.Prelude.{List, None, Option, Some, [], refl, suc, ℕ, ◌++◌, ◌<◌, ◌∷◌}
 use Rattle.std.proofs.Common.{arith, subst, sym}
 use Rattle.obq_base.specs.Tree.{AProc, ProcedureTree}
 use Rattle.obq_base.specs.declared.code.CodeNo.{CodeNo}
@@ -54,6 +54,7 @@ module _ {R : Type 0} (T : Table R) where
       (
         subst (λ (o : Option Proc). Knows (number ∷ []) (captured_values T p (captured_by (outside_at T p) (names_at p) (AProc params b place))) o) (sym h.0) (captured_count T p (captured_by (outside_at T p) (names_at p) (AProc params b place)), λ j l. absurd (none_below j l)),
         captured_complete T w p hp (captured_by (outside_at T p) (names_at p) (AProc params b place)),
+        refl,
       ),
       subst (λ (v : Value R). IsClosed v) (sym (made_read T number numbers p params b place h.0)) tt,
     ),

@@ -1,16 +1,15 @@
 -- Object literals by hand, as runs compute: a method and a value, and a name twice.
-use Rattle.std.specs.Prelude.{List, None, Some, [], codes, false, pos, refl, suc, true, zero, ℕ, ◌∷◌, ◌≡◌}
+use Rattle.std.specs.Prelude.{List, Some, [], codes, false, pos, refl, suc, true, zero, ℕ, ◌∷◌, ◌≡◌}
 use Rattle.obq_base.specs.declared.code.Node.TheVariants as n
-use Rattle.obq_base.specs.declared.code.Code.{Code}
 use Rattle.obq_base.specs.declared.code.CodeNo.{CodeNo}
 use Rattle.obq_base.specs.declared.code.Node.{Node}
 use Rattle.obq_base.specs.declared.trees.Flags.{Flags}
 use Rattle.obq_model.specs.Step.{no_self}
 use Rattle.obq_model.specs.Store.{same_loc}
 use Rattle.obq_model.specs.Terms.{Bytes, Exn}
-use Rattle.obq_windows.specs.Runs.{AtBottom, Ran, Wants, run_nodes}
+use Rattle.obq_windows.specs.Runs.{Ran, Wants, run_nodes}
 use Rattle.obq_windows.specs.Trees.{MethodBody, PlainCloning, ValueBody, field_of}
-use Rattle.obq_windows.specs.Values.{ClosureValue, IntValue, NoValues}
+use Rattle.obq_windows.specs.Values.{IntValue, NoValues, new_closure, no_origin}
 use Rattle.obq_windows.specs.Windows.{NodeRaising, NodeRun, Store, activation_of}
 
 flags : Flags
@@ -36,10 +35,10 @@ store name = record { code = λ number. Some (record { params = 0; captures = 0;
 
 ran : Bytes → Ran ℕ
 unfolding store nodes end_of numbered
-ran name = run_nodes same_loc (store name) 0 no_self 0 40 0 (activation_of (numbered 0) 0 0 [] NoValues []) [] (NodeRun 0 0)
+ran name = run_nodes same_loc (store name) 0 no_self 0 40 0 (activation_of (numbered 0) no_origin 0 [] NoValues []) [] (NodeRun 0 0)
 
 -- no pure step, and the method's closure is the thread's first
-asked : (ran (97 ∷ [])).stop ≡ Wants (PlainCloning (Some flags) (field_of (109 ∷ []) (MethodBody (ClosureValue 0 0 (numbered 1 ∷ []) 0 NoValues)) ∷ field_of (97 ∷ []) (ValueBody (IntValue (pos 7))) ∷ []) [])
+asked : (ran (97 ∷ [])).stop ≡ Wants (PlainCloning (Some flags) (field_of (109 ∷ []) (MethodBody (new_closure 0 0 (numbered 1 ∷ []) 0 NoValues)) ∷ field_of (97 ∷ []) (ValueBody (IntValue (pos 7))) ∷ []) [])
 unfolding ran store nodes end_of flags numbered
 asked = refl
 

@@ -17,7 +17,7 @@ use Rattle.obq_model.specs.Store.{same_loc}
 use Rattle.obq_model.specs.Terms.{Bytes, Const, Int}
 use Rattle.obq_windows.specs.Programs.{store_of}
 use Rattle.obq_windows.specs.Runs.{AtBottom, Ran, pure_steps, run_nodes}
-use Rattle.obq_windows.specs.Values.{IntValue, NoValues}
+use Rattle.obq_windows.specs.Values.{IntValue, NoValues, no_origin}
 use Rattle.obq_windows.specs.Windows.{NodeRun, NodeValue, Store, activation_of}
 
 name_f : Bytes
@@ -68,7 +68,7 @@ store = store_of parts (λ number at. length (nodes_of (code_at parts number)) -
 
 ran : Ran ℕ
 unfolding store parts main_nodes body_nodes number_of_f
-ran = run_nodes same_loc store 0 no_self 0 100 0 (activation_of (record { source = 0; n = 0 }) 0 0 [] NoValues []) [] (NodeRun 0 0)
+ran = run_nodes same_loc store 0 no_self 0 100 0 (activation_of (record { source = 0; n = 0 }) no_origin 0 [] NoValues []) [] (NodeRun 0 0)
 
 bottom : ran.stop ≡ AtBottom
 unfolding ran store parts main_nodes body_nodes number_of_f

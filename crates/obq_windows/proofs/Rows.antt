@@ -1,6 +1,6 @@
 -- The rows of acts on one cell: as code over plain values does them, and in terms.
 use Rattle.std.specs.Prelude.{Bool, List, None, Option, Some, [], bytes_eq, codes, drop, false, if◌then◌else◌, is_some, length, nat_lt, negsuc, not, option_map, pos, refl, slice_get, slice_set, suc, true, unwrap_or, zero, ℕ, ℤ, ◌++◌, ◌==◌, ◌||◌, ◌∷◌, ◌≡◌}
-use Rattle.std.proofs.Common.{ap, subst, sym, ◌∙◌}
+use Rattle.std.proofs.Common.{ap, subst, sym, ◌∙◌, true≢false}
 use Rattle.obq_base.specs.declared.acts.ActKind.{ActKind}
 use Rattle.obq_base.specs.declared.trees.Flags.{Flags}
 use Rattle.obq_model.specs.Cells.{Ends, cell_row, copy_row, get_row, import_row, invoke_row, is_alias, is_clear, is_free, is_refused, item_at, item_row, items_of, line_row, mode_for, object_row, on_object_row, owned_cell, owner_for, redirect_row, set_at_target, set_here_row, set_item_row, set_row, set_variable_row, value_of, write_row}
@@ -9,7 +9,6 @@ use Rattle.obq_model.specs.Put.{enter}
 use Rattle.obq_model.specs.Step.{Again, Broadcast, CallMethod, Copy, EachItem, Entered, Get, GetItem, Itself, LineUp, Offered, Operation, RedirectTo, Self, Set, SetItem, SetVariable, Signal, Write, body_with, params_of, testing}
 use Rattle.obq_model.specs.Store.{ArrayCell, Cell, ConditionCell, ObjectCell, aliased, append_fields, field, with_field}
 use Rattle.obq_model.specs.Terms.{Array, Bytes, Called, Cloning, Closure, Condition, Const, EachAt, EachIn, End, Engine, Exc, Exn, Field, Fields, Form, Int, IsAlias, IsValue, Lined, Loc, Member, Object, Okay, Out, Part, Raised, SetMethod, Term, Text, Thread, Truth, Value, Variable, Within, Writer}
-use Rattle.obq_model.proofs.Among.{true_false}
 use Rattle.obq_windows.specs.Acts.{AnswerForm, AnswerRaising, AnswerTest, AnswerValue, PlainAnswer, left_by}
 use Rattle.obq_windows.specs.Complete.{CompleteBody, CompleteFields, CompleteOperation, IsClosed}
 use Rattle.obq_windows.specs.Moves.{refused_method}
@@ -32,14 +31,14 @@ closed_cases P c Okay h = absurd h
 
 pub refused_closed : {R : Type 0} → (v : Value R) → refused_method v ≡ None → IsClosed v
 refused_closed (Closure params body) h = tt
-refused_closed (Int z) h = absurd (true_false (ap is_some h))
-refused_closed (Truth z) h = absurd (true_false (ap is_some h))
-refused_closed (Text z) h = absurd (true_false (ap is_some h))
-refused_closed (Exc z) h = absurd (true_false (ap is_some h))
-refused_closed (Thread z) h = absurd (true_false (ap is_some h))
-refused_closed (Member z G i) h = absurd (true_false (ap is_some h))
-refused_closed (Loc k z) h = absurd (true_false (ap is_some h))
-refused_closed Okay h = absurd (true_false (ap is_some h))
+refused_closed (Int z) h = absurd (true≢false (ap is_some h))
+refused_closed (Truth z) h = absurd (true≢false (ap is_some h))
+refused_closed (Text z) h = absurd (true≢false (ap is_some h))
+refused_closed (Exc z) h = absurd (true≢false (ap is_some h))
+refused_closed (Thread z) h = absurd (true≢false (ap is_some h))
+refused_closed (Member z G i) h = absurd (true≢false (ap is_some h))
+refused_closed (Loc k z) h = absurd (true≢false (ap is_some h))
+refused_closed Okay h = absurd (true≢false (ap is_some h))
 
 -- ---- fields and items
 
@@ -353,34 +352,34 @@ new_reads T PlainNewCondition cell e scope r = makes T PlainNewCondition scope (
 new_reads T (PlainNewVariable v) cell e scope r = makes T (PlainNewVariable v) scope (PlainVariable v) cell r e (record { after = Entered scope; operation = refl; left = refl; complete = λ c. (c, tt) })
 new_reads T (PlainNewEngine x namer v) cell e scope r = makes T (PlainNewEngine x namer v) scope (PlainEngine v) cell r e (record { after = Offered x namer; operation = refl; left = refl; complete = λ c. (c, (tt, refl)) })
 new_reads T (PlainCloning (Some flags) fields []) cell e scope r = makes T (PlainCloning (Some flags) fields []) scope (PlainObject flags None fields) cell r e (record { after = Itself; operation = refl; left = refl; complete = λ c. (c, tt) })
-new_reads T (PlainGet o x) cell e scope r = absurd (true_false (ap is_some (sym e)))
-new_reads T (PlainRead q) cell e scope r = absurd (true_false (ap is_some (sym e)))
-new_reads T (PlainWrite q z) cell e scope r = absurd (true_false (ap is_some (sym e)))
-new_reads T (PlainInvoke o x vs) cell e scope r = absurd (true_false (ap is_some (sym e)))
-new_reads T (PlainItemOf q i) cell e scope r = absurd (true_false (ap is_some (sym e)))
-new_reads T (PlainSize q) cell e scope r = absurd (true_false (ap is_some (sym e)))
-new_reads T (PlainSetVariable q v) cell e scope r = absurd (true_false (ap is_some (sym e)))
-new_reads T (PlainSetItem q i v) cell e scope r = absurd (true_false (ap is_some (sym e)))
-new_reads T (PlainSetValue o x v) cell e scope r = absurd (true_false (ap is_some (sym e)))
-new_reads T (PlainSetAlias o x q y) cell e scope r = absurd (true_false (ap is_some (sym e)))
-new_reads T (PlainSetMethod o x m) cell e scope r = absurd (true_false (ap is_some (sym e)))
-new_reads T (PlainRedirect o q) cell e scope r = absurd (true_false (ap is_some (sym e)))
-new_reads T (PlainLeave o k) cell e scope r = absurd (true_false (ap is_some (sym e)))
-new_reads T (PlainForkOff f) cell e scope r = absurd (true_false (ap is_some (sym e)))
-new_reads T (PlainRunEngine q f) cell e scope r = absurd (true_false (ap is_some (sym e)))
-new_reads T (PlainExport x namer v) cell e scope r = absurd (true_false (ap is_some (sym e)))
-new_reads T (PlainImport x namer engine) cell e scope r = absurd (true_false (ap is_some (sym e)))
-new_reads T (PlainEachSize q) cell e scope r = absurd (true_false (ap is_some (sym e)))
-new_reads T (PlainEachItem q i n) cell e scope r = absurd (true_false (ap is_some (sym e)))
-new_reads T (PlainLineUp o c) cell e scope r = absurd (true_false (ap is_some (sym e)))
-new_reads T (PlainGiveUp o c) cell e scope r = absurd (true_false (ap is_some (sym e)))
-new_reads T (PlainAgain o c) cell e scope r = absurd (true_false (ap is_some (sym e)))
-new_reads T (PlainCloning None fields []) cell e scope r = absurd (true_false (ap is_some (sym e)))
-new_reads T (PlainCloning (Some flags) fields (o ∷ rest)) cell e scope r = absurd (true_false (ap is_some (sym e)))
-new_reads T (PlainCloning None fields (o ∷ rest)) cell e scope r = absurd (true_false (ap is_some (sym e)))
-new_reads T (PlainSignal c) cell e scope r = absurd (true_false (ap is_some (sym e)))
-new_reads T (PlainBroadcast c) cell e scope r = absurd (true_false (ap is_some (sym e)))
-new_reads T (PlainJoin u) cell e scope r = absurd (true_false (ap is_some (sym e)))
+new_reads T (PlainGet o x) cell e scope r = absurd (true≢false (ap is_some (sym e)))
+new_reads T (PlainRead q) cell e scope r = absurd (true≢false (ap is_some (sym e)))
+new_reads T (PlainWrite q z) cell e scope r = absurd (true≢false (ap is_some (sym e)))
+new_reads T (PlainInvoke o x vs) cell e scope r = absurd (true≢false (ap is_some (sym e)))
+new_reads T (PlainItemOf q i) cell e scope r = absurd (true≢false (ap is_some (sym e)))
+new_reads T (PlainSize q) cell e scope r = absurd (true≢false (ap is_some (sym e)))
+new_reads T (PlainSetVariable q v) cell e scope r = absurd (true≢false (ap is_some (sym e)))
+new_reads T (PlainSetItem q i v) cell e scope r = absurd (true≢false (ap is_some (sym e)))
+new_reads T (PlainSetValue o x v) cell e scope r = absurd (true≢false (ap is_some (sym e)))
+new_reads T (PlainSetAlias o x q y) cell e scope r = absurd (true≢false (ap is_some (sym e)))
+new_reads T (PlainSetMethod o x m) cell e scope r = absurd (true≢false (ap is_some (sym e)))
+new_reads T (PlainRedirect o q) cell e scope r = absurd (true≢false (ap is_some (sym e)))
+new_reads T (PlainLeave o k) cell e scope r = absurd (true≢false (ap is_some (sym e)))
+new_reads T (PlainForkOff f) cell e scope r = absurd (true≢false (ap is_some (sym e)))
+new_reads T (PlainRunEngine q f) cell e scope r = absurd (true≢false (ap is_some (sym e)))
+new_reads T (PlainExport x namer v) cell e scope r = absurd (true≢false (ap is_some (sym e)))
+new_reads T (PlainImport x namer engine) cell e scope r = absurd (true≢false (ap is_some (sym e)))
+new_reads T (PlainEachSize q) cell e scope r = absurd (true≢false (ap is_some (sym e)))
+new_reads T (PlainEachItem q i n) cell e scope r = absurd (true≢false (ap is_some (sym e)))
+new_reads T (PlainLineUp o c) cell e scope r = absurd (true≢false (ap is_some (sym e)))
+new_reads T (PlainGiveUp o c) cell e scope r = absurd (true≢false (ap is_some (sym e)))
+new_reads T (PlainAgain o c) cell e scope r = absurd (true≢false (ap is_some (sym e)))
+new_reads T (PlainCloning None fields []) cell e scope r = absurd (true≢false (ap is_some (sym e)))
+new_reads T (PlainCloning (Some flags) fields (o ∷ rest)) cell e scope r = absurd (true≢false (ap is_some (sym e)))
+new_reads T (PlainCloning None fields (o ∷ rest)) cell e scope r = absurd (true≢false (ap is_some (sym e)))
+new_reads T (PlainSignal c) cell e scope r = absurd (true≢false (ap is_some (sym e)))
+new_reads T (PlainBroadcast c) cell e scope r = absurd (true≢false (ap is_some (sym e)))
+new_reads T (PlainJoin u) cell e scope r = absurd (true≢false (ap is_some (sym e)))
 
 pub threads_read : {R : Type 0} → ThreadsRead R
 threads_read T = record { forked = λ f t. refl; not_forked = λ f. refl; returned = λ t v. refl; failed = λ t e. refl; exported = λ x v. refl }

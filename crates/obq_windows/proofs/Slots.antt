@@ -1,7 +1,7 @@
 -- Names in slots: what a slot has is what its name stands for.
 use Rattle.std.specs.Prelude.{Bool, List, None, Option, Some, [], bytes_eq, drop, false, if◌then◌else◌, is_some, length, option_map, refl, slice_get, suc, true, unwrap_or, ℕ, ◌+◌, ◌<◌, ◌||◌, ◌∷◌, ◌≡◌, ◌≤◌}
 use Rattle.obq_base.specs.declared.code.Slot.TheVariants as s
-use Rattle.std.proofs.Common.{ap, arith, subst, sym, ◌∙◌}
+use Rattle.std.proofs.Common.{ap, arith, subst, sym, ◌∙◌, true≢false}
 use Rattle.std.proofs.lemmas.Slice.Eq.{bytes_eq-Decides}
 use Rattle.obq_base.specs.declared.code.CodeNo.{CodeNo}
 use Rattle.obq_base.specs.declared.code.Node.{Node}
@@ -12,16 +12,16 @@ use Rattle.obq_model.specs.Put.{among}
 use Rattle.obq_model.specs.Resolved.{IsCode}
 use Rattle.obq_model.specs.Scopes.{is_covered, last_place, last_place_from, slot_of, slot_or, slots_of}
 use Rattle.obq_model.specs.Terms.{Array, Bytes, Condition, Engine, Object, Variable, Writer}
-use Rattle.obq_model.proofs.Among.{bytes_sym, true_false}
+use Rattle.obq_model.proofs.Among.{bytes_sym}
 use Rattle.obq_model.proofs.Drafted.{Drafted}
 use Rattle.obq_model.proofs.Places.{among_place, or_else, place_below, place_found}
 use Rattle.obq_model.proofs.Skips.{ends}
 use Rattle.obq_windows.specs.Agrees.{Agrees, FocusIs, FramesAre, IsBound, Same, StandsAt, place_at}
 use Rattle.obq_windows.specs.Moves.{begin_name, captured_values, target_value, used, value_or_okay}
 use Rattle.obq_windows.specs.Places.{Bound, bound_names, bound_values, last_bound, member_at, or_this, outside_at, proc_group, proc_outside, value_of, writer_at}
-use Rattle.obq_windows.specs.Trees.{Tag, TreeFocus, TreeFrame, tree_moved}
+use Rattle.obq_windows.specs.Trees.{Tag, TreeFocus, TreeFrame, TreeMoved, tree_moved}
 use Rattle.obq_windows.specs.Values.{AValue, ClosureValue, ExceptionValue, IntValue, LocationValue, OkayValue, PlainValue, Table, TextValue, ThreadValue, TruthValue, captured_at}
-use Rattle.obq_windows.specs.Windows.{Activation, NodeFocus, NodeFrame, NodeHere, NodeMoved, NodeValue, Store, capture, node_at, node_moved, slot_value, use_node, use_slot}
+use Rattle.obq_windows.specs.Windows.{Activation, Change, NodeFocus, NodeFrame, NodeHere, NodeMoved, NodeValue, Store, capture, node_at, node_changed, node_moved, slot_value, use_node, use_slot}
 use Rattle.obq_windows.proofs.Lists.{behind_here, item_here, take_get}
 
 -- the nodes here, and behind a first tree
@@ -99,9 +99,9 @@ slot_is {R} T S act b bound w mg x c =
           → or_else (option_map (λ j. unwrap_or (slice_get act.locals j) OkayValue) o) (or_else (option_map (member_at (proc_group (T.procs act.code)) (place_at act bound)) m) (option_map (captured_at act.captured) k))
           ≡ Some (slot_value S act (slot_or s.Local o (slot_or s.Member m (slot_or s.Captured k (s.Stdout (proc_outside (T.procs act.code)).source)))))
       at (Some j) m q k e = refl
-      at None (Some j) q k e = ap (λ (l : List CodeNo). Some (ClosureValue act.thread act.count l j act.captured)) (sym (mg j (below j q)))
+      at None (Some j) q k e = ap (λ (l : List CodeNo). Some (ClosureValue act.origin act.count l j act.captured)) (sym (mg j (below j q)))
       at None None q (Some j) e = refl
-      at None None q None e = absurd (true_false (sym e))
+      at None None q None e = absurd (true≢false (sym e))
 
 pub capture_is : {R : Type 0} → (T : Table R) (S : Store R) (act : Activation R) (b : ℕ) (bound : List (Bound R)) → IsBound act b bound → ((k : ℕ) → k < length (outside_at T (place_at act bound)).members → act.group ≡ proc_group (T.procs act.code)) → (xs : List Bytes)
     → ((x : Bytes) → among x xs ≡ true → is_covered (outside_at T (place_at act bound)) (bound_names bound) x ≡ true)
@@ -125,13 +125,13 @@ pub target_alike : {R : Type 0} → (T : Table R) (S : Store R) → Agrees T S �
 target_alike {R} T S g act b bound w mg x = at (is_covered (outside_at T (place_at act bound)) (bound_names bound) x) refl where
   none : (o : Option ℕ) → is_some o ≡ false → o ≡ None
   none None e = refl
-  none (Some k) e = absurd (true_false e)
+  none (Some k) e = absurd (true≢false e)
 
   apart : (a c d : Bool) → (a || (c || d)) ≡ false → (a ≡ false) × (c ≡ false) × (d ≡ false)
   apart false false false e = (refl, refl, refl)
-  apart true c d e = absurd (true_false e)
-  apart false true d e = absurd (true_false e)
-  apart false false true e = absurd (true_false e)
+  apart true c d e = absurd (true≢false e)
+  apart false true d e = absurd (true≢false e)
+  apart false false true e = absurd (true≢false e)
 
   uncovered : is_covered (outside_at T (place_at act bound)) (bound_names bound) x ≡ false → slot_of (outside_at T (place_at act bound)) (bound_names bound) x ≡ s.Stdout (proc_outside (T.procs act.code)).source
   uncovered e =
@@ -198,6 +198,10 @@ name_alike {R} T S g act b bound w mg ns fs fr x =
 
 pub alike : {R : Type 0} → (T : Table R) (S : Store R) (tag : Tag R) (act : Activation R) (b : ℕ) (ns : List (NodeFrame R)) (nf : NodeFocus R) (fs : List (TreeFrame R)) (tf : TreeFocus R) → FramesAre T S act b ns fs → FocusIs T S act b nf tf → Same T S (node_moved tag act ns nf) (tree_moved tag fs tf)
 alike T S tag act b ns nf fs tf h k = record { tag = refl; makes = refl; height = b; frames = h; focus = k }
+
+-- what a move does to the list of activations isn't looked at
+pub changed_alike : {R : Type 0} → (T : Table R) (S : Store R) (c : Change) (m : NodeMoved R) (t : TreeMoved R) → Same T S m t → Same T S (node_changed c m) t
+changed_alike T S c m t h = record { tag = h.tag; makes = h.makes; height = h.height; frames = h.frames; focus = h.focus }
 
 pub not_above : (n : ℕ) → n ≤ n
 not_above n = omega arith

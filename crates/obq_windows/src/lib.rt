@@ -4,7 +4,7 @@
 ghost use Rattle.obq_windows.specs.Acts.{AnswersRead, SelfIsOwn, WindowsBegin};
 ghost use Rattle.obq_windows.specs.Laws.{OpeningReads, OpeningRuns, RunMoves, StepsAreThose, TreeMoves, WindowMoves};
 ghost use Rattle.obq_windows.specs.Programs.{ProgramsAgree, ProgramsRun};
-ghost use Rattle.obq_windows.specs.Rows.{AgainReads, ImportReads, NewReads, RowsComplete, RowsRead, ThreadsRead};
+ghost use Rattle.obq_windows.specs.Rows.{ActsRead, AgainReads, ImportReads, NewReads, RowsComplete, RowsRead, ThreadsRead};
 
 /// What stands next in the term of a window over trees is what its move says.
 pub fn tree_moves<R>()
@@ -48,6 +48,12 @@ pub fn rows_read<R, X>()
 /// Such an act leaves a complete cell, and its answer is one that may stand at its form.
 pub fn rows_complete<R>()
     ensures law { RowsComplete R }
+{}
+
+/// Both in one sentence, with the window: where an act on one cell ends, its row ends with the cell that it leaves and with what stands then in
+/// the hole of the frames around its form, and the answered window reads back as those frames with that in their hole.
+pub fn acts_read<R, X>()
+    ensures law { ActsRead R X }
 {}
 
 /// The same of a watch that takes its mutex again, of an import, and of an operation that makes a cell.

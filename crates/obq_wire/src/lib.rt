@@ -20,6 +20,3 @@ pub use laws::{one_frame, one_packet, operations_have_their_numbers};
 pub use packets::{Current, Operation, Outcome, Packet, Reply, Request, Wake};
 pub use refusal::WireRefused;
 pub use values::{TableEntry, TableMember, WireBody, WireField, WireValue};
-
-#[cfg(test)]
-mod tests;

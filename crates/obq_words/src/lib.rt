@@ -4,6 +4,3 @@
 mod words;
 
 pub use words::{Order, SiteWord, WordsRefused, read_words};
-
-#[cfg(test)]
-mod tests;

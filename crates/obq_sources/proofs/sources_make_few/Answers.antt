@@ -1,0 +1,5 @@
+use Rattle.obq_sources.proofs.Few as few
+use Rattle.obq_sources.proofs.sources_make_few.Goals as goal
+
+pub returns : goal.returns
+returns c = record { law = few.sources_make_few }
