@@ -50,3 +50,4 @@ pub mod EntryTrails
 pub mod DoneSites
 pub mod SitedTrails
 pub mod RequestTrails
+pub mod HomeTrails

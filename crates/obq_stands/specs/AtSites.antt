@@ -4,10 +4,11 @@ use Rattle.obq_base.specs.declared.acts.ActKind.{ActKind}
 use Rattle.obq_base.specs.Tree.{BlockTree}
 use Rattle.obq_model.specs.Terms.{Term}
 use Rattle.obq_model.specs.Step.{Self, Operation, activations_at}
-use Rattle.obq_model.specs.Located.{Located, activations_of, located_run}
+use Rattle.obq_model.specs.Located.{Located, home_of, activations_of, located_run}
 use Rattle.obq_stands.specs.World.{Ref, Memory, PendingCall, MayAsk, Ending, World}
 use Rattle.obq_stands.specs.Stands.{Link, Table, Chained, Place, Nowhere, Absent, At, InLine, WaitsAt, EndedAt, StandsFor, Does, OnCell, Makes, Retakes, Joins, Exports, Imports, TooMany}
 use Rattle.obq_stands.specs.Events.{Step, Acted, Asks, Serves, Enters, Holds, Returns, Resumes, Run, Begin, Then, windows, world_at}
+use Rattle.obq_stands.specs.Over.{homes_of}
 use Rattle.obq_stands.specs.Pending.{call_in}
 use Rattle.obq_stands.specs.CellSites.{AreAt}
 
@@ -75,3 +76,8 @@ abbrev pub EveryRunAtSites : Type 0
 EveryRunAtSites =
     (trees : List BlockTree) (turns : ℕ) (w : World) (inv : StandsFor trees turns w) (l : Located) (r : Run turns (world_at (windows 0 trees)) w) → AreSited (length trees) r → located_run trees turns w.journal ≡ Some l
     → AreAt w.memory l.cell_sites × AreTrails trees turns w inv l
+
+-- then each thread's home in the located fold is the site where it was forked, or that of its block
+abbrev pub HomesLocated : Type 0
+HomesLocated =
+    (trees : List BlockTree) (turns : ℕ) (w : World) (l : Located) (r : Run turns (world_at (windows 0 trees)) w) (t : ℕ) (tr : List ℕ) → AreSited (length trees) r → located_run trees turns w.journal ≡ Some l → slice_get l.thread_sites t ≡ Some tr → home_of tr ≡ homes_of r t
