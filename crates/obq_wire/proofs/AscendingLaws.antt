@@ -83,7 +83,7 @@ module _ (needed : List ℕ) (agreed : ℕ) (agrees : IsAgreement needed agreed)
       let longer : length (earlier ++ e ∷ []) ≡ suc (length earlier) = omega (arith, length-append earlier (e ∷ [])) in
       step earlier e (f ∷ fs) all le
       (λ lu. from_here (earlier ++ e ∷ []) f fs (before_last f.number earlier e (before_more e.number f.number earlier all lt) lt) two.1 (omega (arith, longer, lu))
-          ∙ ap (needless agreed) (omega (arith, longer)))
+      ∙ ap (needless agreed) (omega (arith, longer)))
 
 pub ascending_misplaced : (needed : List ℕ) (agreed : ℕ) (table : List TableEntry) → IsAgreement needed agreed → ascend table ≡ true
     → misplaced_from needed [] table ≡ needless agreed (length table)
