@@ -51,3 +51,7 @@ pub mod DoneSites
 pub mod SitedTrails
 pub mod RequestTrails
 pub mod HomeTrails
+pub mod ActiveLinks
+pub mod RequestCounts
+pub mod ReplyCounts
+pub mod ReplyEvents
