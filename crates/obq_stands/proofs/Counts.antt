@@ -141,7 +141,7 @@ line_less k ls a b p ps c d is = by (at2_cases ls a b ps c d)
     by (inr q) = none (count_in k (ls c d)) ∙ ap (λ n. count_in k (ls c d) + n) (sym (gain_other (k p) c d a b q.0)) ∙ ap (λ l. count_in k l + gain (k p) c d a b) (sym q.1)
 
 -- what a parked packet counts
-parked_gain : (k : Packet → Bool) (a b c d : ℕ) (p : Packet) → d ≡ b → parked_in k c (Some (record { from = a; packet = p })) ≡ gain (k p) c d a b
+pub parked_gain : (k : Packet → Bool) (a b c d : ℕ) (p : Packet) → d ≡ b → parked_in k c (Some (record { from = a; packet = p })) ≡ gain (k p) c d a b
 parked_gain k a b c d p e = by (same_or c a)
   where
     by : ((c ≡ a) ⊎ (c ≡ a → ⊥)) → one_if (eqb c a && k p) ≡ gain (k p) c d a b

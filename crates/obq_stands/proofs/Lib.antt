@@ -55,3 +55,4 @@ pub mod ActiveLinks
 pub mod RequestCounts
 pub mod ReplyCounts
 pub mod ReplyEvents
+pub mod WaitingRequests

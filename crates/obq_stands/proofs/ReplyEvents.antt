@@ -244,7 +244,7 @@ sum_both : (n : ℕ) (f g : ℕ → ℕ) → sum_to n (λ u. f u + g u) ≡ sum_
 sum_both zero f g = refl
 sum_both (suc n) f g = let e = sum_both n f g in omega (arith, e)
 
-sum_first : (n : ℕ) (f : ℕ → ℕ) → sum_to (suc n) f ≡ f 0 + sum_to n (λ u. f (suc u))
+pub sum_first : (n : ℕ) (f : ℕ → ℕ) → sum_to (suc n) f ≡ f 0 + sum_to n (λ u. f (suc u))
 sum_first zero f = refl
 sum_first (suc n) f = let e = sum_first n f in omega (arith, e)
 
