@@ -56,3 +56,4 @@ pub mod RequestCounts
 pub mod ReplyCounts
 pub mod ReplyEvents
 pub mod WaitingRequests
+pub mod WatchedRuns
