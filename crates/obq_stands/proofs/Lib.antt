@@ -57,3 +57,4 @@ pub mod ReplyCounts
 pub mod ReplyEvents
 pub mod WaitingRequests
 pub mod WatchedRuns
+pub mod RestExample

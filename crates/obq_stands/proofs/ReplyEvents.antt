@@ -262,7 +262,7 @@ all_parts trees turns w inv l a b r =
 -- ---- from the start
 
 -- no segment of the opening answers a call
-first_left : (xs : List (Term Ref)) (a b u : ℕ) → left_in a (first_running xs b u) ≡ 0
+pub first_left : (xs : List (Term Ref)) (a b u : ℕ) → left_in a (first_running xs b u) ≡ 0
 first_left xs a b u = by (first_running xs b u) refl
   where
     by : (o : Option Slot) → first_running xs b u ≡ o → left_in a o ≡ 0
