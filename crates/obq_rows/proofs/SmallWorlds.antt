@@ -1,13 +1,14 @@
 -- Programs over sites, run by a World that is computed, on two schedules each: its journal replays to the same output, and the requests and replies that were posted are
 -- those that the located replay of its journal counts.
-use Rattle.std.specs.Prelude.{[], codes, refl, true, ◌∷◌, ◌≡◌}
+use Rattle.std.specs.Prelude.{None, [], codes, refl, true, ◌∷◌, ◌≡◌}
 use Rattle.std.specs.Fmt.{digits}
+use Rattle.obq_base.specs.declared.acts.ActKind.{ActKind}
 use Rattle.obq_model.specs.Located.{Sent}
 use Rattle.obq_rows.specs.Schedule.{Printed}
-use Rattle.obq_rows.specs.SmallWorld.{eager, patient, run_small, both, counts_agree}
+use Rattle.obq_rows.specs.SmallWorld.{eager, patient, small, run_small, both, counts_agree, acts_of}
 use Rattle.obq_rows.proofs.Abroad.{alias_abroad, join_abroad}
 use Rattle.obq_rows.proofs.Migration.{migration_under_load}
-use Rattle.obq_rows.proofs.Sites.{engine_call, object_sent_abroad, import_waits, export_again, update_abroad, migration}
+use Rattle.obq_rows.proofs.Sites.{engine_call, object_sent_abroad, import_waits, export_again, update_abroad, watch_abroad, migration}
 
 update_abroad_runs : run_small 20 eager 100000 2 update_abroad ≡ both (Printed (codes "8" ∷ [] ∷ []) 2 0 0 0 0) (codes "8" ∷ [] ∷ []) (Sent 0 1 3 0 ∷ Sent 0 2 1 0 ∷ Sent 1 0 0 3 ∷ Sent 1 2 1 0 ∷ Sent 2 0 0 1 ∷ Sent 2 1 0 1 ∷ [])
 unfolding digits
@@ -98,3 +99,30 @@ under_load_agrees_other_schedule = refl
 under_load_prints_other_schedule : (run_small 250 patient 100000 3 migration_under_load).replayed ≡ Printed (codes "10" ∷ [] ∷ []) 3 0 0 0 0
 unfolding digits
 under_load_prints_other_schedule = refl
+
+-- a watch with its condition at another site than its object: the mutex is taken again by the one wake
+watch_abroad_agrees : counts_agree (run_small 40 eager 100000 3 watch_abroad) ≡ true
+unfolding digits
+watch_abroad_agrees = refl
+
+watch_abroad_runs : (run_small 40 eager 100000 3 watch_abroad).replayed ≡ Printed (codes "ok" ∷ [] ∷ []) 3 0 0 0 0
+unfolding digits
+watch_abroad_runs = refl
+
+watch_abroad_wakes : acts_of ActKind.Again (small 40 eager 100000 3 watch_abroad).world.journal ≡ 1
+watch_abroad_wakes = refl
+
+watch_abroad_agrees_other_schedule : counts_agree (run_small 200 patient 100000 3 watch_abroad) ≡ true
+unfolding digits
+watch_abroad_agrees_other_schedule = refl
+
+watch_abroad_runs_other_schedule : (run_small 200 patient 100000 3 watch_abroad).replayed ≡ Printed (codes "ok" ∷ [] ∷ []) 3 0 0 0 0
+unfolding digits
+watch_abroad_runs_other_schedule = refl
+
+watch_abroad_wakes_other_schedule : acts_of ActKind.Again (small 200 patient 100000 3 watch_abroad).world.journal ≡ 1
+watch_abroad_wakes_other_schedule = refl
+
+-- and it is used up
+no_wake_is_left : ((small 40 eager 100000 3 watch_abroad).watch.noted 0 2 ≡ None) × ((small 200 patient 100000 3 watch_abroad).watch.noted 0 2 ≡ None)
+no_wake_is_left = (refl, refl)

@@ -1,16 +1,19 @@
 -- A call of a serialized object at another site and back: thread 0 at site 0 calls a method of an object at site 1, which reads a field of its own. The definitions compute:
 -- the mutex is taken and given back there, the object's own read doesn't wait, and three acts stand in the journal.
-use Rattle.std.specs.Prelude.{List, Some, None, [], true, false, ◌∷◌, pos, refl, if◌then◌else◌, ◌<◌, ◌+◌, ◌≡◌}
+use Rattle.std.specs.Prelude.{option_map, ℕ, List, Some, None, [], true, false, ◌∷◌, pos, refl, if◌then◌else◌, ◌<◌, ◌+◌, ◌≡◌}
 use Rattle.std.proofs.Common.{arith}
 use Rattle.obq_base.specs.declared.acts.ActKind.{ActKind}
 use Rattle.obq_model.specs.Terms.{Object, Held, Within, Select, Invoke, Int, Loc, IsValue, IsMethod, Fields, Bare, Field, Okay, Name, Term, Const, Form, Part, End}
-use Rattle.obq_model.specs.Store.{Cell, ObjectCell}
+use Rattle.obq_model.specs.Store.{Cell, ObjectCell, WriterCell}
 use Rattle.obq_model.specs.Step.{no_self, Operation, Get, CallMethod, Leave, Frame, Pending}
-use Rattle.obq_model.specs.Config.{act}
+use Rattle.obq_model.specs.Config.{Running, ThreadState, act}
+use Rattle.obq_model.specs.Located.{Located, locate_from}
 use Rattle.obq_laws.specs.Determinism.{entry_of}
 use Rattle.obq_stands.specs.World.{Ref, same_ref, Memory, with_left, Slot, Answer, Request, Reply, World, without, start, post, with_line, pend, with_memory, note}
 use Rattle.obq_stands.specs.Stands.{OnCell}
 use Rattle.obq_stands.specs.Events.{first_cell, first_slot, world_at, with_window, moved, answering, OffLine, Asks, Acted, Enters, Returns, Resumes, Run, Begin, Then}
+use Rattle.obq_stands.specs.AtSites.{AreSited}
+use Rattle.obq_stands.specs.Counts.{left_at, no_tally, tally_run}
 
 abbrev o : Ref
 o = record { site = 1; kind = Object; index = 0 }
@@ -81,16 +84,16 @@ w7 = with_line w6 1 0 []
 abbrev w8 : World
 w8 = start (pend w7 0 0 None) 0 0 (record { segment = with_window slot.segment (Const (Int (pos 40))); used = 3 })
 
-few0 : 0 < 10
+pub few0 : 0 < 10
 few0 = omega arith
 
-few1 : 1 + 0 < 10
+pub few1 : 1 + 0 < 10
 few1 = omega arith
 
-few2 : 2 + 0 < 10
+pub few2 : 2 + 0 < 10
 few2 = omega arith
 
-pub runs : Run 10 w0 w8
+abbrev pub runs : Run 10 w0 w8
 runs =
     Then (Then (Then (Then (Then (Then Begin
     (Asks w0 0 0 1 0 slot op [] refl few0 refl refl))
@@ -107,3 +110,40 @@ journal = refl
 
 pub freed : w8.memory.heap o ≡ Some (record { born = 2; cell = free })
 freed = refl
+
+-- ---- the located fold of the same journal
+
+-- each act is done at its cell's site
+pub sited : AreSited 2 runs
+sited = ((((((tt, tt), refl), refl), refl), tt), tt)
+
+abbrev term : Term ℕ
+term = Form (Invoke (97 ∷ [])) (Part (Const (Loc Object 2)) End)
+
+abbrev object : Cell ℕ
+object = ObjectCell (record { protected = false; serialized = true }) None (Field (97 ∷ []) (IsMethod ((115 ∷ []) ∷ []) (Form (Select (116 ∷ [])) (Part (Name (115 ∷ [])) End))) (Field (116 ∷ []) (IsValue (Int (pos 40))) Bare))
+
+abbrev state : Term ℕ → ThreadState
+state u = record { execution = Running u; used = 0 }
+
+abbrev first : Located
+first =
+    record {
+      config = record { store = record { cells = WriterCell [] ∷ WriterCell [] ∷ object ∷ []; names = [] }; threads = state term ∷ state (Const Okay) ∷ [] };
+      cell_sites = 0 ∷ 1 ∷ 1 ∷ [];
+      thread_sites = (0 ∷ []) ∷ (1 ∷ []) ∷ [];
+      requests = [];
+      replies = [];
+    }
+
+-- the fold counts one request and one reply, and the thread is at home again
+pub counted : option_map (λ (l : Located). record l { config = first.config }) (locate_from 2 10 first w8.journal) ≡ Some (record first { requests = (0, 1) ∷ []; replies = (1, 0) ∷ [] })
+counted = refl
+
+-- inside of the method it is at site 1
+pub at_object : option_map (λ (l : Located). l.thread_sites) (locate_from 2 10 first w3.journal) ≡ Some ((1 ∷ 0 ∷ []) ∷ (1 ∷ []) ∷ [])
+at_object = refl
+
+-- so do the sites; while the method has been left and not answered yet, its reply is to be posted
+pub tallied : ((tally_run runs no_tally).posted 0 1 ≡ 1) × ((tally_run runs no_tally).replied 1 0 ≡ 1) × (left_at w5 0 1 ≡ 1) × (left_at w6 0 1 ≡ 0)
+tallied = (refl, refl, refl, refl)

@@ -13,39 +13,40 @@ use Rattle.obq_stands.proofs.Opening.{every_run_stands}
 
 -- ---- sums
 
-sum_same : (n : ℕ) (f g : ℕ → ℕ) → ((u : ℕ) → g u ≡ f u) → sum_to n g ≡ sum_to n f
+pub sum_same : (n : ℕ) (f g : ℕ → ℕ) → ((u : ℕ) → u < n → g u ≡ f u) → sum_to n g ≡ sum_to n f
 sum_same zero f g e = refl
-sum_same (suc n) f g e = let a = e n in let b = sum_same n f g e in omega (arith, a, b)
-
-sum_below : (n t : ℕ) (f g : ℕ → ℕ) → ((t < n) → ⊥) → ((u : ℕ) → (u ≡ t → ⊥) → g u ≡ f u) → sum_to n g ≡ sum_to n f
-sum_below zero t f g l e = refl
-sum_below (suc n) t f g l e =
-    let ne : n ≡ t → ⊥ = λ q. l (at_most n t q) in
-    let a = e n ne in
-    let b = sum_below n t f g (λ k. l (less n t k)) e in
+sum_same (suc n) f g e =
+    let a = e n (last n) in
+    let b = sum_same n f g (λ u l. e u (before u n l)) in
     omega (arith, a, b)
   where
-    at_most : (n t : ℕ) → n ≡ t → t < suc n
-    at_most n t q = omega arith
+    last : (n : ℕ) → n < suc n
+    last n = omega arith
 
-    less : (n t : ℕ) → t < n → t < suc n
-    less n t k = omega arith
+    before : (u n : ℕ) → u < n → u < suc n
+    before u n l = omega arith
 
-sum_changes : (n t : ℕ) (f g : ℕ → ℕ) → t < n → ((u : ℕ) → (u ≡ t → ⊥) → g u ≡ f u) → sum_to n g + f t ≡ sum_to n f + g t
+pub sum_changes : (n t : ℕ) (f g : ℕ → ℕ) → t < n → ((u : ℕ) → u < n → (u ≡ t → ⊥) → g u ≡ f u) → sum_to n g + f t ≡ sum_to n f + g t
 sum_changes zero t f g l e = absurd (omega arith)
-sum_changes (suc n) t f g l e = by (same_or n t) (λ k. sum_changes n t f g k e)
+sum_changes (suc n) t f g l e = by (same_or n t) (λ k. sum_changes n t f g k (λ u m ne. e u (before u n m) ne))
   where
-    not_less : (n t : ℕ) → n ≡ t → (t < n) → ⊥
-    not_less n t q k = absurd (omega arith)
+    before : (u n : ℕ) → u < n → u < suc n
+    before u n l = omega arith
+
+    last : (n : ℕ) → n < suc n
+    last n = omega arith
+
+    not_it : (n t u : ℕ) → n ≡ t → u < n → u ≡ t → ⊥
+    not_it n t u q k r = absurd (omega arith)
 
     by : ((n ≡ t) ⊎ (n ≡ t → ⊥)) → (t < n → sum_to n g + f t ≡ sum_to n f + g t) → sum_to (suc n) g + f t ≡ sum_to (suc n) f + g t
     by (inl q) again =
-        let b = sum_below n t f g (not_less n t q) e in
+        let b = sum_same n f g (λ u m. e u (before u n m) (not_it n t u q m)) in
         let c : g n ≡ g t = ap g q in
         let d : f n ≡ f t = ap f q in
         omega (arith, b, c, d)
     by (inr ne) again =
-        let a = e n ne in
+        let a = e n (last n) ne in
         let b = again (below n t l ne) in
         omega (arith, a, b)
       where
@@ -54,7 +55,7 @@ sum_changes (suc n) t f g l e = by (same_or n t) (λ k. sum_changes n t f g k e)
 
 -- ---- what a change adds for the pair c, d
 
-gain : Bool → ℕ → ℕ → ℕ → ℕ → ℕ
+pub gain : Bool → ℕ → ℕ → ℕ → ℕ → ℕ
 gain g c d a b = if c == a && d == b then one_if g else 0
 
 gain_none : (c d a b : ℕ) → gain false c d a b ≡ 0
@@ -65,11 +66,11 @@ gain_none c d a b = by (c == a && d == b)
     by true = refl
     by false = refl
 
-gain_here : (g : Bool) (c d a b : ℕ) → c ≡ a → d ≡ b → gain g c d a b ≡ one_if g
+pub gain_here : (g : Bool) (c d a b : ℕ) → c ≡ a → d ≡ b → gain g c d a b ≡ one_if g
 unfolding gain
 gain_here g c d a b e f = rw (e, f, test_refl a, test_refl b) refl
 
-gain_other : (g : Bool) (c d a b : ℕ) → (c ≡ a → d ≡ b → ⊥) → gain g c d a b ≡ 0
+pub gain_other : (g : Bool) (c d a b : ℕ) → (c ≡ a → d ≡ b → ⊥) → gain g c d a b ≡ 0
 unfolding gain
 gain_other g c d a b ne = by (same_or c a) (same_or d b)
   where
@@ -82,7 +83,7 @@ gain_other g c d a b ne = by (same_or c a) (same_or d b)
         last false = refl
     by (inr e) f = ap (λ x. if x && eqb d b then one_if g else 0) (test_no c a e)
 
-more : (f : ℕ → ℕ → ℕ) (a b c d : ℕ) → one_more f a b c d ≡ f c d + gain true c d a b
+pub more : (f : ℕ → ℕ → ℕ) (a b c d : ℕ) → one_more f a b c d ≡ f c d + gain true c d a b
 more f a b c d = by (at2_cases f a b (suc (f a b)) c d)
   where
     plus : (n : ℕ) → suc n ≡ n + 1
@@ -140,7 +141,7 @@ line_less k ls a b p ps c d is = by (at2_cases ls a b ps c d)
     by (inr q) = none (count_in k (ls c d)) ∙ ap (λ n. count_in k (ls c d) + n) (sym (gain_other (k p) c d a b q.0)) ∙ ap (λ l. count_in k l + gain (k p) c d a b) (sym q.1)
 
 -- what a parked packet counts
-parked_gain : (k : Packet → Bool) (a b c d : ℕ) (p : Packet) → d ≡ b → parked_in k c (Some (record { from = a; packet = p })) ≡ gain (k p) c d a b
+pub parked_gain : (k : Packet → Bool) (a b c d : ℕ) (p : Packet) → d ≡ b → parked_in k c (Some (record { from = a; packet = p })) ≡ gain (k p) c d a b
 parked_gain k a b c d p e = by (same_or c a)
   where
     by : ((c ≡ a) ⊎ (c ≡ a → ⊥)) → one_if (eqb c a && k p) ≡ gain (k p) c d a b
@@ -161,10 +162,10 @@ hold_less k wa n a b t p c d l is = by (same_or d b)
     by (inl e) =
         let old : parked_in k c (wa d t) ≡ gain (k p) c d a b = ap (λ i. parked_in k c (wa i t)) e ∙ ap (parked_in k c) is ∙ parked_gain k a b c d p e in
         let new : parked_in k c (at2 wa b t None d t) ≡ 0 = ap (λ i. parked_in k c (at2 wa b t None i t)) e ∙ ap (parked_in k c) (at2_same wa b t None) in
-        let s = sum_changes n t (λ u. parked_in k c (wa d u)) (λ u. parked_in k c (at2 wa b t None d u)) l (λ u ne. ap (parked_in k c) (at2_other wa b t None d u (λ _ q. ne q))) in
+        let s = sum_changes n t (λ u. parked_in k c (wa d u)) (λ u. parked_in k c (at2 wa b t None d u)) l (λ u _ ne. ap (parked_in k c) (at2_other wa b t None d u (λ _ q. ne q))) in
         drop_zero (held k (at2 wa b t None) n c d) (held k wa n c d) (gain (k p) c d a b) (ap (λ m. held k (at2 wa b t None) n c d + m) (sym old) ∙ s ∙ ap (λ m. held k wa n c d + m) new)
     by (inr ne) =
-        sym (sum_same n (λ u. parked_in k c (wa d u)) (λ u. parked_in k c (at2 wa b t None d u)) (λ u. ap (parked_in k c) (at2_other wa b t None d u (λ q _. ne q)))) ∙ none (held k (at2 wa b t None) n c d)
+        sym (sum_same n (λ u. parked_in k c (wa d u)) (λ u. parked_in k c (at2 wa b t None d u)) (λ u _. ap (parked_in k c) (at2_other wa b t None d u (λ q _. ne q)))) ∙ none (held k (at2 wa b t None) n c d)
         ∙ ap (λ m. held k (at2 wa b t None) n c d + m) (sym (gain_other (k p) c d a b (λ _ q. ne q)))
 
 -- and one more
@@ -184,10 +185,10 @@ hold_more k wa n a b t p c d l is = by (same_or d b)
     by (inl e) =
         let old : parked_in k c (wa d t) ≡ 0 = ap (λ i. parked_in k c (wa i t)) e ∙ ap (parked_in k c) is in
         let new : parked_in k c (at2 wa b t (Some (record { from = a; packet = p })) d t) ≡ gain (k p) c d a b = ap (λ i. parked_in k c (at2 wa b t (Some (record { from = a; packet = p })) i t)) e ∙ ap (parked_in k c) (at2_same wa b t (Some (record { from = a; packet = p }))) ∙ parked_gain k a b c d p e in
-        let s = sum_changes n t (λ u. parked_in k c (wa d u)) (λ u. parked_in k c (at2 wa b t (Some (record { from = a; packet = p })) d u)) l (λ u ne. ap (parked_in k c) (at2_other wa b t (Some (record { from = a; packet = p })) d u (λ _ q. ne q))) in
+        let s = sum_changes n t (λ u. parked_in k c (wa d u)) (λ u. parked_in k c (at2 wa b t (Some (record { from = a; packet = p })) d u)) l (λ u _ ne. ap (parked_in k c) (at2_other wa b t (Some (record { from = a; packet = p })) d u (λ _ q. ne q))) in
         drop_zero (held k (at2 wa b t (Some (record { from = a; packet = p }))) n c d) (held k wa n c d) (gain (k p) c d a b) (ap (λ m. held k (at2 wa b t (Some (record { from = a; packet = p }))) n c d + m) (sym old) ∙ s ∙ ap (λ m. held k wa n c d + m) new)
     by (inr ne) =
-        sum_same n (λ u. parked_in k c (wa d u)) (λ u. parked_in k c (at2 wa b t (Some (record { from = a; packet = p })) d u)) (λ u. ap (parked_in k c) (at2_other wa b t (Some (record { from = a; packet = p })) d u (λ q _. ne q))) ∙ none (held k wa n c d)
+        sum_same n (λ u. parked_in k c (wa d u)) (λ u. parked_in k c (at2 wa b t (Some (record { from = a; packet = p })) d u)) (λ u _. ap (parked_in k c) (at2_other wa b t (Some (record { from = a; packet = p })) d u (λ q _. ne q))) ∙ none (held k wa n c d)
         ∙ ap (λ m. held k wa n c d + m) (sym (gain_other (k p) c d a b (λ _ q. ne q)))
 
 -- ---- on Worlds
@@ -216,7 +217,7 @@ held_open k w a b t p c d l is = let e = hold_more k w.waiting w.threads a b t p
 
 -- ---- the threads of packets are there
 
-carried_below : (turns : ℕ) (w w1 : World) (c : Config) (a b : ℕ) (p : Packet) → Stands turns w c → Takes w a b p w1 → thread_of p < w.threads
+pub carried_below : (turns : ℕ) (w w1 : World) (c : Config) (a b : ℕ) (p : Packet) → Stands turns w c → Takes w a b p w1 → thread_of p < w.threads
 carried_below turns w w1 c a b (Request t k used depth self op) st takes =
     let q = out_packet turns w c a b (Request t k used depth self op) w1 st takes in
     subst (λ n. t < n) st.counted (get_below c.threads t _ q.carries.2.here)
@@ -325,7 +326,7 @@ counts_kept trees turns w x z inv h (Resumes _ w1 a b t k used o e op hs takes h
 
 -- ---- from the start
 
-sum_zero : (n : ℕ) → sum_to n (λ u. 0) ≡ 0
+pub sum_zero : (n : ℕ) → sum_to n (λ u. 0) ≡ 0
 sum_zero zero = refl
 sum_zero (suc n) = let e = sum_zero n in omega (arith, e)
 

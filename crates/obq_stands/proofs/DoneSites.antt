@@ -25,7 +25,7 @@ use Rattle.obq_stands.proofs.TrailEvents.{trail_there}
 
 -- ---- the place of an operation
 
-place_cell : (f : Ref → ℕ) (op : Operation Ref) (r : Ref) → cell_of op ≡ Some r → place_of (map_operation f op) ≡ AtCell (f r)
+pub place_cell : (f : Ref → ℕ) (op : Operation Ref) (r : Ref) → cell_of op ≡ Some r → place_of (map_operation f op) ≡ AtCell (f r)
 place_cell f (Get o x) r e = let same : o ≡ r = cc e in ap (λ z. AtCell (f z)) same
 place_cell f (CallMethod o x vs) r e = let same : o ≡ r = cc e in ap (λ z. AtCell (f z)) same
 place_cell f (Leave o out) r e = let same : o ≡ r = cc e in ap (λ z. AtCell (f z)) same
@@ -67,7 +67,7 @@ ended_home trees turns w inv l u b e r h is =
     ap home_of (get_or_from_slice_get l.thread_sites u k.0 [] k.1 ∙ own)
 
 -- the site of a cell
-cell_site : (trees : List BlockTree) (turns : ℕ) (w : World) (inv : StandsFor trees turns w) (l : Located) (here : ℕ) (r : Ref) (x : Born) → AreAt w.memory l.cell_sites → w.memory.heap r ≡ Some x → site_at (length trees) l here (AtCell (reading w.memory 0 r)) ≡ r.site
+pub cell_site : (trees : List BlockTree) (turns : ℕ) (w : World) (inv : StandsFor trees turns w) (l : Located) (here : ℕ) (r : Ref) (x : Born) → AreAt w.memory l.cell_sites → w.memory.heap r ≡ Some x → site_at (length trees) l here (AtCell (reading w.memory 0 r)) ≡ r.site
 cell_site trees turns w inv l here r x h is = ap (λ n. slice_index_or l.cell_sites n 0) ((reading_agrees w.memory inv.config.store inv.stands.memory 0).cells r x is) ∙ get_or_from_slice_get l.cell_sites x.born r.site 0 (h r x is)
 
 -- an act that is asked for, or is done where its thread is

@@ -27,7 +27,7 @@ use Rattle.obq_stands.proofs.Turns.{state_of}
 -- ---- lists
 
 -- one more, if there is one, stands behind all
-more_other : {A : Type 0} (m n : ℕ) (x : A) (xs : List A) (j : ℕ) → (j ≡ length xs → ⊥) → slice_get (with_more m n x xs) j ≡ slice_get xs j
+pub more_other : {A : Type 0} (m n : ℕ) (x : A) (xs : List A) (j : ℕ) → (j ≡ length xs → ⊥) → slice_get (with_more m n x xs) j ≡ slice_get xs j
 more_other {A} m n x xs j ne = by (nat_lt m n)
   where
     by : (b : Bool) → slice_get (if b then xs ++ x ∷ [] else xs) j ≡ slice_get xs j

@@ -1,14 +1,11 @@
 -- A thread's home in the located fold is where its bottom is.
-use Rattle.std.specs.Prelude.{List, Option, Some, None, [], ◌∷◌, ◌++◌, ℕ, suc, zero, length, refl, replicate, slice_get, ◌≡◌}
+use Rattle.std.specs.Prelude.{List, Option, Some, None, [], ◌∷◌, ◌++◌, ℕ, suc, zero, refl, replicate, slice_get, ◌≡◌}
 use Rattle.std.proofs.Common.{ap, sym, ◌∙◌, subst}
-use Rattle.obq_base.specs.Tree.{BlockTree}
 use Rattle.obq_model.specs.Step.{Self, activations_at}
 use Rattle.obq_model.specs.Config.{ThreadState, Config}
-use Rattle.obq_model.specs.Located.{Located, home_of, activations_of, located_run}
-use Rattle.obq_model.proofs.Options.{not_both}
-use Rattle.obq_stands.specs.World.{Ref, PendingCall, Slot, Suspended, Packet, Request, Reply, Parked, Ending, World}
-use Rattle.obq_stands.specs.Stands.{Link, Table, Chained, Carries, Place, Nowhere, Absent, At, InLine, WaitsAt, EndedAt, HasPlace, StandsAt, IsSomewhere, StandsFor}
-use Rattle.obq_stands.specs.Events.{Run, windows, world_at}
+use Rattle.obq_model.specs.Located.{home_of, activations_of}
+use Rattle.obq_stands.specs.World.{Ref, PendingCall, Packet, Request, Reply, World}
+use Rattle.obq_stands.specs.Stands.{Link, Chained, Carries, Place, Nowhere, Absent, At, InLine, WaitsAt, EndedAt, HasPlace, StandsAt, IsSomewhere}
 use Rattle.obq_stands.specs.Over.{AtHome, homes_of}
 use Rattle.obq_stands.specs.Pending.{call_in}
 use Rattle.obq_stands.specs.AtSites.{sites_around, IsTrailOf, TrailIs, HomesLocated}

@@ -22,8 +22,11 @@ use Rattle.obq_laws.proofs.Phases.{phase_entry, rouse_law, others_law, awake_sta
 use Rattle.obq_stands.specs.World.{with_at, at2, Ref, same_ref, Heap, Memory, Slot, wire, result_of, result_term, MayAsk, Request, Reply, thread_of, Parked, Ending, World, start, note, Idle, Ends}
 use Rattle.obq_stands.specs.Stands.{Agrees, MemoryStands, Link, Place, Nowhere, WaitsAt, around, Does, Retakes, Stands, StandsFor, after_steps}
 use Rattle.obq_stands.specs.Events.{moved, calling, Takes, Step, Steps, Acted, Forks, Finishes, Asks, Serves, Enters, Holds, Returns, Resumes}
+use Rattle.obq_stands.specs.AtSites.{IsDoneAt, IsSited}
+use Rattle.obq_stands.specs.Counts.{Tally, tally_of}
+use Rattle.obq_stands.specs.WatchRuns.{IsDoneBeside, IsSitedBeside, tally_beside}
 use Rattle.obq_stands.specs.Watch.{sleep_of, Sleeps, Asleep, Watch, Owed, Watched}
-use Rattle.obq_stands.specs.Joined.{IsApart, Beside, Apart, Notes, Frees, TakesHome, TakesNoted, SignalsNone, SignalsOne, SignalsAll, DoesBeside, ByStore, ByWake, HasNoAct, Plain, ActedBeside, ServesBeside, EntersBeside, Delivers, WatchStands, WatchStepKeeps, WatchStepIs}
+use Rattle.obq_stands.specs.Joined.{WatchStep, IsApart, Beside, Apart, Notes, Frees, TakesHome, TakesNoted, SignalsNone, SignalsOne, SignalsAll, DoesBeside, ByStore, ByWake, HasNoAct, Plain, ActedBeside, ServesBeside, EntersBeside, Delivers, WatchStands, WatchStepKeeps, WatchStepIs}
 use Rattle.obq_model.proofs.Slices.{get_below, set_own}
 use Rattle.obq_stands.proofs.Update.{same_or, at2_same, with_at_same, with_at_other}
 use Rattle.obq_stands.proofs.Chains.{bottom}
@@ -369,3 +372,27 @@ watch_step_is trees turns w x e e2 i (ServesBeside _ w1 _ _ a b t k used depth s
 watch_step_is trees turns w x e e2 i (EntersBeside _ w1 _ _ a b t k used depth self op kind loc m y z takes call does enters) =
     inl (Enters w w1 a b t k used depth self op kind loc m y z takes call (request_does turns w w1 i.stands.config e e2 i.place a b t k used depth self op kind loc m y i.stands.stands takes i.watched does).0 enters)
 watch_step_is trees turns w x e e2 i (Delivers _ _ a b p ps first) = inr refl
+
+-- ---- where an act is done
+
+does_sited : (c : Config) (m : Memory) (en : ℕ → ℕ → Option Ending) (n t server site : ℕ) (s : Self Ref) (e e2 : Watch) (pl : ℕ → Place) (op : Operation Ref) (kind : ActKind) (loc : ℕ) (m2 : Memory) (x : Term Ref) (st : MemoryStands m c.store) (wd : Watched m.heap (states_of c) e pl)
+    (asleep : (o q : Ref) (guard : Term Ref) → op ≡ Again o q guard → Asleep m.heap (states_of c t) o q) (does : DoesBeside m en n t s e op kind loc m2 x e2) → IsDoneBeside server site does → IsDoneAt server site (plain_does c m en n t s e e2 pl op kind loc m2 x st wd asleep does).0
+unfolding plain_does
+does_sited c m en n t server site s e e2 pl op kind loc m2 x st wd asleep (ByStore _ _ _ _ _ _ does beside) h = h
+does_sited c m en n t server site s e e2 pl op kind loc m2 x st wd asleep (ByWake o q guard y _ left _ k here noted row) h = h
+
+-- an event of the World, at the same site and with the same counts; or the World stays
+abbrev pub IsOne : {turns : ℕ} {w x : World} {e e2 : Watch} → ℕ → WatchStep turns w e x e2 → Type 0
+IsOne {turns} {w} {x} server s = ((p : Step turns w x) × IsSited server p × ((z : Tally) → tally_of p z ≡ tally_beside s z)) ⊎ ((x ≡ w) × ((z : Tally) → tally_beside s z ≡ z))
+
+pub watch_step_sited : (trees : List BlockTree) (turns server : ℕ) (w x : World) (e e2 : Watch) → WatchStands trees turns w e → (s : WatchStep turns w e x e2) → IsSitedBeside server s → IsOne server s
+unfolding home_does request_does
+watch_step_sited trees turns server w x e e2 i (Plain _ _ _ s quiet) h = inl (s, h, λ z. refl)
+watch_step_sited trees turns server w x e e2 i (ActedBeside _ _ _ s t n slot u op hs kind loc m y is few steps needs does) h =
+    let k = stepped trees turns w e s t n slot u i is (less_is slot.used n turns few) steps in
+    inl (Acted w s t n slot u op hs kind loc m y is few steps needs (home_does trees turns w e e2 s t n slot u op hs kind loc m y i few needs k does).0, does_sited _ w.memory w.ended w.threads t server s _ e e2 i.place op kind loc m y _ _ _ does h, λ z. refl)
+watch_step_sited trees turns server w x e e2 i (ServesBeside _ w1 _ _ a b t k used depth self op kind loc m y o takes may does gives) h =
+    inl (Serves w w1 a b t k used depth self op kind loc m y o takes may (request_does turns w w1 i.stands.config e e2 i.place a b t k used depth self op kind loc m y i.stands.stands takes i.watched does).0 gives, does_sited _ w.memory w.ended w.threads t server b self e e2 i.place op kind loc m y _ _ _ does h, λ z. refl)
+watch_step_sited trees turns server w x e e2 i (EntersBeside _ w1 _ _ a b t k used depth self op kind loc m y z takes call does enters) h =
+    inl (Enters w w1 a b t k used depth self op kind loc m y z takes call (request_does turns w w1 i.stands.config e e2 i.place a b t k used depth self op kind loc m y i.stands.stands takes i.watched does).0 enters, does_sited _ w.memory w.ended w.threads t server b self e e2 i.place op kind loc m y _ _ _ does h, λ z. refl)
+watch_step_sited trees turns server w x e e2 i (Delivers _ _ a b p ps first) h = inr (refl, λ z. refl)

@@ -51,3 +51,10 @@ pub mod DoneSites
 pub mod SitedTrails
 pub mod RequestTrails
 pub mod HomeTrails
+pub mod ActiveLinks
+pub mod RequestCounts
+pub mod ReplyCounts
+pub mod ReplyEvents
+pub mod WaitingRequests
+pub mod WatchedRuns
+pub mod RestExample

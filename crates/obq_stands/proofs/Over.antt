@@ -115,10 +115,13 @@ nothing_false : (b : Bool) → (b && (false || false)) ≡ false
 nothing_false true = refl
 nothing_false false = refl
 
--- a thread whose operation waits isn't able
+-- a thread whose operation waits has nothing to do, so it isn't able
+waits_next : (c : Config) (t used : ℕ) (u : Term ℕ) (op : Operation ℕ) (fs : List (Frame ℕ)) → slice_get c.threads t ≡ Some (state_of (Running u) used) → find same_loc 0 no_self u ≡ Needs op fs → perform c t (self_at no_self fs) op ≡ Waiting → effect c t ≡ e.Waits
+waits_next c t used u op fs here found waits = ap (effect_of_state c t) here ∙ ap (effect_of c t) found ∙ ap (after_outcome c t fs) waits
+
 not_able : (turns : ℕ) (c : Config) (t used : ℕ) (u : Term ℕ) (op : Operation ℕ) (fs : List (Frame ℕ)) → slice_get c.threads t ≡ Some (state_of (Running u) used) → find same_loc 0 no_self u ≡ Needs op fs → perform c t (self_at no_self fs) op ≡ Waiting → is_able turns c t ≡ false
 not_able turns c t used u op fs here found waits =
-    let ef : effect c t ≡ e.Waits = ap (effect_of_state c t) here ∙ ap (effect_of c t) found ∙ ap (after_outcome c t fs) waits in
+    let ef : effect c t ≡ e.Waits = waits_next c t used u op fs here found waits in
     ap (λ (o : Option ThreadState). elim o [ None ↦ false | Some state ↦ is_able_execution turns c t state.used state.execution ]) here
     ∙ ap (λ x. nat_lt used turns && (is_some (next_of x) || acts (effect c t))) found
     ∙ ap (λ x. nat_lt used turns && (false || acts x)) ef
@@ -129,23 +132,50 @@ spent turns c t used u here over =
     ap (λ (o : Option ThreadState). elim o [ None ↦ false | Some state ↦ is_able_execution turns c t state.used state.execution ]) here
     ∙ ap (λ b. b && (is_some (next_of (find same_loc 0 no_self u)) || acts (effect c t))) over
 
+-- what stands next in a thread waits in the store
+record WaitsNext (c : Config) (t used : ℕ) : Type 0 where
+  term : Term ℕ
+  op : Operation ℕ
+  frames : List (Frame ℕ)
+  here : slice_get c.threads t ≡ Some (state_of (Running term) used)
+  found : find same_loc 0 no_self term ≡ Needs op frames
+  waits : perform c t (self_at no_self frames) op ≡ Waiting
+
+waits_able : (turns : ℕ) (c : Config) (t used : ℕ) → WaitsNext c t used → is_able turns c t ≡ false
+waits_able turns c t used k = not_able turns c t used k.term k.op k.frames k.here k.found k.waits
+
+segment_waits : (turns : ℕ) (w : World) (c : Config) → Stands turns w c → (t : ℕ) (slot : Slot) (op : Operation Ref) (hs : List (Frame Ref)) → Goes (slice_get c.threads t) slot.used (λ u. Reads w.memory.heap w.pending t u slot.segment.window slot.segment.depth slot.segment.self slot.segment.answers)
+    → find same_ref slot.segment.depth slot.segment.self slot.segment.window ≡ Needs op hs → Waits w.memory w.ended t (self_at slot.segment.self hs) op → WaitsNext c t slot.used
+segment_waits turns w c st t slot op hs r needs waits =
+    let k = found_op w.memory c st.memory w.pending t r.term slot.segment.window slot.segment.depth slot.segment.self slot.segment.answers r.reads.links r.reads.chained r.reads.same op hs needs in
+    record { term = r.term; op = k.op2; frames = k.gs; here = r.here; found = k.found; waits = waits_too turns w c st t (self_at slot.segment.self hs) (self_at no_self k.gs) op k.op2 k.one waits }
+
+-- the effect of a thread whose segment waits
+pub segment_effect : (turns : ℕ) (w : World) (c : Config) → Stands turns w c → (t : ℕ) (slot : Slot) (op : Operation Ref) (hs : List (Frame Ref)) → Goes (slice_get c.threads t) slot.used (λ u. Reads w.memory.heap w.pending t u slot.segment.window slot.segment.depth slot.segment.self slot.segment.answers)
+    → find same_ref slot.segment.depth slot.segment.self slot.segment.window ≡ Needs op hs → Waits w.memory w.ended t (self_at slot.segment.self hs) op → effect c t ≡ e.Waits
+segment_effect turns w c st t slot op hs r needs waits = let k = segment_waits turns w c st t slot op hs r needs waits in waits_next c t slot.used k.term k.op k.frames k.here k.found k.waits
+
 stopped : (turns : ℕ) (w : World) (c : Config) → Stands turns w c → (t : ℕ) (slot : Slot) → (r : Goes (slice_get c.threads t) slot.used (λ u. Reads w.memory.heap w.pending t u slot.segment.window slot.segment.depth slot.segment.self slot.segment.answers))
     → HasStopped turns w.memory w.ended t slot → (b : Bool) → nat_lt slot.used turns ≡ b → is_able turns c t ≡ false
 stopped turns w c st t slot r h false is = spent turns c t slot.used r.term r.here is
-stopped turns w c st t slot r h true is =
-    let q = h is in
-    let k = found_op w.memory c st.memory w.pending t r.term slot.segment.window slot.segment.depth slot.segment.self slot.segment.answers r.reads.links r.reads.chained r.reads.same q.0 q.1 q.2 in
-    not_able turns c t slot.used r.term k.op2 k.gs r.here k.found (waits_too turns w c st t (self_at slot.segment.self q.1) (self_at no_self k.gs) q.0 k.op2 k.one q.3)
+stopped turns w c st t slot r h true is = let q = h is in waits_able turns c t slot.used (segment_waits turns w c st t slot q.0 q.1 r q.2 q.3)
 
-held : (turns : ℕ) (w : World) (c : Config) → Stands turns w c → (t a b : ℕ) (q : Packet) → Carries turns w.memory.heap w.pending t (slice_get c.threads t) a b q → IsStuck w.memory w.ended q → is_able turns c t ≡ false
-held turns w c st t a b (Request t2 k used depth self op) r h =
+request_waits : (turns : ℕ) (w : World) (c : Config) → Stands turns w c → (t a b k used depth : ℕ) (self : Self Ref) (op : Operation Ref) → Carries turns w.memory.heap w.pending t (slice_get c.threads t) a b (Request t k used depth self op) → MayAsk op → Waits w.memory w.ended t self op → WaitsNext c t used
+request_waits turns w c st t a b k used depth self op r may waits =
     let g = r.2.reads in
     let l : Link = g.link in
     let q = found_op w.memory c st.memory w.pending t r.2.term l.segment.window l.segment.depth l.segment.self l.segment.answers g.links g.chained.5 g.same l.op l.frames g.chained.1.needs in
     let own : Waits w.memory w.ended t (self_at l.segment.self l.frames) l.op =
-    subst (λ z. Waits w.memory w.ended t z l.op) g.chained.4
-    (stuck w.memory w.ended t self l.op (may_wire l.op (subst MayAsk (sym g.asks) h.0)) (subst (Waits w.memory w.ended t self) (sym g.asks) (subst (λ n. Waits w.memory w.ended n self op) r.0 h.1))) in
-    not_able turns c t used r.2.term q.op2 q.gs r.2.here q.found (waits_too turns w c st t (self_at l.segment.self l.frames) (self_at no_self q.gs) l.op q.op2 q.one own)
+    subst (λ z. Waits w.memory w.ended t z l.op) g.chained.4 (stuck w.memory w.ended t self l.op (may_wire l.op (subst MayAsk (sym g.asks) may)) (subst (Waits w.memory w.ended t self) (sym g.asks) waits)) in
+    record { term = r.2.term; op = q.op2; frames = q.gs; here = r.2.here; found = q.found; waits = waits_too turns w c st t (self_at l.segment.self l.frames) (self_at no_self q.gs) l.op q.op2 q.one own }
+
+-- the effect of a thread whose request waits
+pub request_effect : (turns : ℕ) (w : World) (c : Config) → Stands turns w c → (t a b k used depth : ℕ) (self : Self Ref) (op : Operation Ref) → Carries turns w.memory.heap w.pending t (slice_get c.threads t) a b (Request t k used depth self op) → MayAsk op → Waits w.memory w.ended t self op → effect c t ≡ e.Waits
+request_effect turns w c st t a b k used depth self op r may waits = let x = request_waits turns w c st t a b k used depth self op r may waits in waits_next c t used x.term x.op x.frames x.here x.found x.waits
+
+held : (turns : ℕ) (w : World) (c : Config) → Stands turns w c → (t a b : ℕ) (q : Packet) → Carries turns w.memory.heap w.pending t (slice_get c.threads t) a b q → IsStuck w.memory w.ended q → is_able turns c t ≡ false
+held turns w c st t a b (Request t2 k used depth self op) r h =
+    waits_able turns c t used (request_waits turns w c st t a b k used depth self op (refl, r.1, r.2) h.0 (subst (λ n. Waits w.memory w.ended n self op) r.0 h.1))
 held turns w c st t a b (Reply t2 k used o) r h = absurd h
 
 ended_by : (turns : ℕ) (c : Config) (t : ℕ) (f : Ref → ℕ) (x : Ending) (ex : Execution) (used : ℕ) → slice_get c.threads t ≡ Some (state_of ex used) → ex ≡ ending_of f x → is_able turns c t ≡ false

@@ -256,7 +256,7 @@ opening_trail k (suc n) (suc i) tr e = opening_trail (suc k) n i tr e ∙ ap (λ
     one_on m n = omega arith
 
 -- a segment of the opening
-first_segment : (xs : List (Term Ref)) (s t : ℕ) (slot : Slot) → first_running xs s t ≡ Some slot → (s ≡ t) × (slot.segment.answers ≡ None) × (slot.segment.depth ≡ 0)
+pub first_segment : (xs : List (Term Ref)) (s t : ℕ) (slot : Slot) → first_running xs s t ≡ Some slot → (s ≡ t) × (slot.segment.answers ≡ None) × (slot.segment.depth ≡ 0)
 first_segment xs s t slot e = by (slice_get xs t) (eqb s t) refl e
   where
     by : (o : Option (Term Ref)) (b : Bool) → eqb s t ≡ b → (if b then option_map first_slot o else None) ≡ Some slot → (s ≡ t) × (slot.segment.answers ≡ None) × (slot.segment.depth ≡ 0)

@@ -13,9 +13,13 @@ use Rattle.obq_laws.proofs.Phases.{awake_opened}
 use Rattle.obq_stands.specs.World.{Born, Ending, Ends, Heap, Idle, Memory, Packet, Parked, Ref, Reply, Request, Slot, park, same_ref}
 use Rattle.obq_stands.specs.Stands.{Absent, Agrees, At, Carries, EndedAt, InLine, MemoryStands, Nowhere, Place, Stands, StandsAt, StandsFor, WaitsAt}
 use Rattle.obq_stands.specs.Events.{OffHold, windows, first_cell, world_at, LooksAt}
-use Rattle.obq_stands.specs.Over.{Waits, RetakeWaits, IsStuck, IsIdle}
+use Rattle.obq_base.specs.Tree.{BlockTree}
+use Rattle.obq_stands.specs.World.{World}
+use Rattle.obq_stands.specs.Counts.{IsTriedAt}
+use Rattle.obq_stands.specs.WatchRuns.{IsTriedBeside}
+use Rattle.obq_stands.specs.Over.{Waits, OnCellWaits, RetakeWaits, IsStuck, IsIdle}
 use Rattle.obq_stands.specs.Watch.{Asleep, LineFits, Owed, Slept, Watch, Watched, mark, wake}
-use Rattle.obq_stands.specs.Joined.{BeginWatch, ThenWatch, WatchBegins, EveryWatchRunStands, WaitsBeside, InStore, WakeMissing, NotFree, IsStuckBeside, WatchIdleIsOver, WakeIs, StillLined, OnItsWay, Arrived, WakeExactly}
+use Rattle.obq_stands.specs.Joined.{WatchStands, BeginWatch, ThenWatch, WatchBegins, EveryWatchRunStands, WaitsBeside, InStore, WakeMissing, NotFree, IsStuckBeside, WatchIdleIsOver, WakeIs, StillLined, OnItsWay, Arrived, WakeExactly}
 use Rattle.obq_stands.proofs.Memory.{reading, reading_agrees}
 use Rattle.obq_stands.proofs.Opening.{first, begins}
 use Rattle.obq_stands.proofs.Presence.{present, present_abroad}
@@ -63,54 +67,66 @@ not_free : (t : ℕ) (lined free : Bool) (o q : Ref) (guard : Term Ref) (c : Opt
 not_free t true free o q guard c e = refl
 not_free t false free o q guard c e = rw e refl
 
-waits_of : (c : Config) (m : Memory) (en : ℕ → ℕ → Option Ending) (e : Watch) (pl : ℕ → Place) (t : ℕ) (s : Self Ref) (op : Operation Ref) → MemoryStands m c.store → Watched m.heap (states_of c) e pl → Slept m.heap (states_of c) pl → ((a b : ℕ) → e.wakes a b ≡ [])
-    → ((r : Ref) → LooksAt op r → (x : Born) × (m.heap r ≡ Some x)) → ((o q : Ref) (guard : Term Ref) → op ≡ Again o q guard → Asleep m.heap (states_of c t) o q) → WaitsBeside m en e t s op → Waits m en t s op
-waits_of c m en e pl t s op st wd sl empty there asleep (InStore _ h) = h
-waits_of c m en e pl t s op st wd sl empty there asleep (WakeMissing o q guard far none) =
+-- it waits in the store, and is tried where it was
+abbrev pub InStoreToo : {m : Memory} {en : ℕ → ℕ → Option Ending} {e : Watch} {t : ℕ} {s : Self Ref} {op : Operation Ref} → WaitsBeside m en e t s op → Type 0
+InStoreToo {m} {en} {e} {t} {s} {op} k = (waits : Waits m en t s op) × ((server : ℕ) (home : ℕ → ℕ) (site : ℕ) → IsTriedBeside server home site k → IsTriedAt server home site waits)
+
+tried_again : (m : Memory) (en : ℕ → ℕ → Option Ending) (t server site : ℕ) (home : ℕ → ℕ) (s : Self Ref) (o q : Ref) (guard : Term Ref) (waits : Waits m en t s (Again o q guard)) → o.site ≡ site → IsTriedAt server home site waits
+tried_again m en t server site home s o q guard (OnCellWaits _ r x is here row) h = absurd (cc is)
+tried_again m en t server site home s o q guard (RetakeWaits _ _ _ x y here there row) h = h
+
+in_store : (c : Config) (m : Memory) (en : ℕ → ℕ → Option Ending) (e : Watch) (pl : ℕ → Place) (t : ℕ) (s : Self Ref) (op : Operation Ref) → MemoryStands m c.store → Watched m.heap (states_of c) e pl → Slept m.heap (states_of c) pl → ((a b : ℕ) → e.wakes a b ≡ [])
+    → ((r : Ref) → LooksAt op r → (x : Born) × (m.heap r ≡ Some x)) → ((o q : Ref) (guard : Term Ref) → op ≡ Again o q guard → Asleep m.heap (states_of c t) o q) → (k : WaitsBeside m en e t s op) → InStoreToo k
+in_store c m en e pl t s op st wd sl empty there asleep (InStore _ h) = (h, λ server home site q. q)
+in_store c m en e pl t s op st wd sl empty there asleep (WakeMissing o q guard far none) =
     let z = there o (inl refl) in
     let y = there q (inr refl) in
-    quiet_waits m (reading m 0) (reading_agrees m c.store st 0) en (states_of c) e pl t s o q guard z.0 y.0 wd sl (asleep o q guard refl) far empty none z.1 y.1
-waits_of c m en e pl t s op st wd sl empty there asleep (NotFree o q guard x here busy) =
+    let waits : Waits m en t s (Again o q guard) = quiet_waits m (reading m 0) (reading_agrees m c.store st 0) en (states_of c) e pl t s o q guard z.0 y.0 wd sl (asleep o q guard refl) far empty none z.1 y.1 in
+    (waits, λ server home site h. tried_again m en t server site home s o q guard waits h)
+in_store c m en e pl t s op st wd sl empty there asleep (NotFree o q guard x here busy) =
     let y = there q (inr refl) in
-    RetakeWaits o q guard x y.0 here y.1 (not_free t (in_line t (line_of (Some y.0.cell))) false o q guard (Some x.cell) busy)
+    (RetakeWaits o q guard x y.0 here y.1 (not_free t (in_line t (line_of (Some y.0.cell))) false o q guard (Some x.cell) busy), λ server home site h. h)
+
+-- what stands next in a segment
+pub segment_in_store : (trees : List BlockTree) (turns : ℕ) (w : World) (e : Watch) (i : WatchStands trees turns w e) → ((a b : ℕ) → e.wakes a b ≡ []) → (s t : ℕ) (slot : Slot) → w.running s t ≡ Some slot → (op : Operation Ref) (hs : List (Frame Ref))
+    → find same_ref slot.segment.depth slot.segment.self slot.segment.window ≡ Needs op hs → (k : WaitsBeside w.memory w.ended e t (self_at slot.segment.self hs) op) → InStoreToo k
+segment_in_store trees turns w e i empty s t slot is op hs needs k =
+    let c : Config = i.stands.config in
+    in_store c w.memory w.ended e i.place t (self_at slot.segment.self hs) op i.stands.stands.memory i.watched i.slept empty (present turns w c s t slot op hs i.stands.stands is needs)
+    (λ o q guard same. phase_of turns w c s t slot op hs o q i.stands.stands is needs (again_sleep op o q guard same)) k
+
+-- what a request asks for
+pub request_in_store : (trees : List BlockTree) (turns : ℕ) (w : World) (e : Watch) (i : WatchStands trees turns w e) → ((a b : ℕ) → e.wakes a b ≡ []) → (a b t k used depth : ℕ) (self : Self Ref) (op : Operation Ref) → w.waiting b t ≡ Some (record { from = a; packet = Request t k used depth self op })
+    → (x : WaitsBeside w.memory w.ended e t self op) → InStoreToo x
+request_in_store trees turns w e i empty a b t k used depth self op is x =
+    let c : Config = i.stands.config in
+    let takes = OffHold is in
+    let d = stood_request turns w (park w b t None) c a b t k used depth self op i.stands.stands takes in
+    in_store c w.memory w.ended e i.place t self op i.stands.stands.memory i.watched i.slept empty (present_abroad turns w (park w b t None) c a b t k used depth self op i.stands.stands takes)
+    (λ o r guard same. asleep_before w.memory c t d.own o r d.stood.stood (wire_again d.own o r guard (d.asks ∙ same))) x
+
+-- the thread of a request that is held
+pub held_by : (turns : ℕ) (w : World) (c : Config) → Stands turns w c → (b t : ℕ) (x : Parked) (t2 k used depth : ℕ) (self : Self Ref) (op : Operation Ref) → w.waiting b t ≡ Some x → x.packet ≡ Request t2 k used depth self op → w.waiting b t2 ≡ Some (record { from = x.from; packet = Request t2 k used depth self op })
+held_by turns w c st b t x t2 k used depth self op is e =
+    let carries : Carries turns w.memory.heap w.pending t (slice_get c.threads t) x.from b x.packet = subst (StandsAt turns w.memory.heap w.pending t (slice_get c.threads t)) (st.placed.waits b t x is) (st.threads t) in
+    let own : Carries turns w.memory.heap w.pending t (slice_get c.threads t) x.from b (Request t2 k used depth self op) = subst (Carries turns w.memory.heap w.pending t (slice_get c.threads t) x.from b) e carries in
+    ap (w.waiting b) own.0 ∙ is ∙ ap (λ z. Some (record { from = x.from; packet = z })) e
 
 pub watch_idle_is_over : WatchIdleIsOver
 watch_idle_is_over trees turns w e i h =
     let c : Config = i.stands.config in
-    let st : Stands turns w c = i.stands.stands in
     let idle : IsIdle turns w = record {
       lines = h.lines;
-      runs = λ s t slot is left. let q = h.runs s t slot is left in runs s t slot is q.0 q.1 q.2 q.3;
-      waits = λ s t x is. waits s t x is (subst (StandsAt turns w.memory.heap w.pending t (slice_get c.threads t)) (st.placed.waits s t x is) (st.threads t)) x.packet refl (h.waits s t x is);
+      runs = λ s t slot is left. let q = h.runs s t slot is left in (q.0, q.1, q.2, (segment_in_store trees turns w e i h.wakes s t slot is q.0 q.1 q.2 q.3).0);
+      waits = λ s t x is. waits s t x is x.packet refl (h.waits s t x is);
     } in
-    (c, i.stands.replays, idle_is_over turns w c st idle)
+    (c, i.stands.replays, idle_is_over turns w c i.stands.stands idle)
   where
-    runs : (s t : ℕ) (slot : Slot) → w.running s t ≡ Some slot → (op : Operation Ref) (hs : List (Frame Ref)) → find same_ref slot.segment.depth slot.segment.self slot.segment.window ≡ Needs op hs → WaitsBeside w.memory w.ended e t (self_at slot.segment.self hs) op
-        → (op : Operation Ref) × (hs : List (Frame Ref)) × (find same_ref slot.segment.depth slot.segment.self slot.segment.window ≡ Needs op hs) × Waits w.memory w.ended t (self_at slot.segment.self hs) op
-    runs s t slot is op hs needs k =
-        let c : Config = i.stands.config in (
-          op,
-          hs,
-          needs,
-          waits_of c w.memory w.ended e i.place t (self_at slot.segment.self hs) op i.stands.stands.memory i.watched i.slept h.wakes (present turns w c s t slot op hs i.stands.stands is needs)
-              (λ o q guard same. phase_of turns w c s t slot op hs o q i.stands.stands is needs (again_sleep op o q guard same)) k,
-        )
-
-    waits : (b t : ℕ) (x : Parked) → w.waiting b t ≡ Some x → Carries turns w.memory.heap w.pending t (slice_get i.stands.config.threads t) x.from b x.packet → (p : Packet) → x.packet ≡ p → IsStuckBeside w.memory w.ended e x.packet → IsStuck w.memory w.ended x.packet
-    waits b t x is carries (Request t2 k used depth self op) e2 stuck =
-        let c : Config = i.stands.config in
-        let own = subst (Carries turns w.memory.heap w.pending t (slice_get c.threads t) x.from b) e2 carries in
-        let whole : x ≡ record { from = x.from; packet = Request t2 k used depth self op } = ap (λ z. record { from = x.from; packet = z }) e2 in
-        let here : w.waiting b t2 ≡ Some (record { from = x.from; packet = Request t2 k used depth self op }) = ap (w.waiting b) own.0 ∙ is ∙ ap Some whole in
-        let takes = OffHold here in
+    waits : (b t : ℕ) (x : Parked) → w.waiting b t ≡ Some x → (p : Packet) → x.packet ≡ p → IsStuckBeside w.memory w.ended e x.packet → IsStuck w.memory w.ended x.packet
+    waits b t x is (Request t2 k used depth self op) e2 stuck =
         let q : IsStuckBeside w.memory w.ended e (Request t2 k used depth self op) = subst (IsStuckBeside w.memory w.ended e) e2 stuck in
-        let d = stood_request turns w (park w b t2 None) c x.from b t2 k used depth self op i.stands.stands takes in
-        subst (IsStuck w.memory w.ended) (sym e2) (
-          q.0,
-          waits_of c w.memory w.ended e i.place t2 self op i.stands.stands.memory i.watched i.slept h.wakes (present_abroad turns w (park w b t2 None) c x.from b t2 k used depth self op i.stands.stands takes)
-              (λ o r guard same. asleep_before w.memory c t2 d.own o r d.stood.stood (wire_again d.own o r guard (d.asks ∙ same))) q.1,
-        )
-    waits b t x is carries (Reply t2 k used o) e2 stuck = absurd (subst (IsStuckBeside w.memory w.ended e) e2 stuck)
+        subst (IsStuck w.memory w.ended) (sym e2) (q.0, (request_in_store trees turns w e i h.wakes x.from b t2 k used depth self op (held_by turns w i.stands.config i.stands.stands b t x t2 k used depth self op is e2) q.1).0)
+    waits b t x is (Reply t2 k used o) e2 stuck = absurd (subst (IsStuckBeside w.memory w.ended e) e2 stuck)
 
 -- ---- where a wake is
 

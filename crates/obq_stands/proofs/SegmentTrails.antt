@@ -9,7 +9,7 @@ use Rattle.obq_model.specs.Config.{Running, Config}
 use Rattle.obq_model.specs.Frames.{IsActivation}
 use Rattle.obq_model.specs.Located.{Located, activations_of, site_here, Trail, entered_at, left_from, turned}
 use Rattle.obq_model.specs.Located as located
-use Rattle.obq_model.specs.Maps.{map_term, map_operation, map_frames}
+use Rattle.obq_model.specs.Maps.{map_term, map_operation, map_frames, map_found}
 use Rattle.obq_model.specs.Naturality.{Tells}
 use Rattle.obq_model.specs.Replay.{after_pure}
 use Rattle.obq_laws.specs.Activations.{Activated}
@@ -17,7 +17,7 @@ use Rattle.obq_laws.proofs.Activated.{found_activations}
 use Rattle.obq_laws.proofs.Formed.{GoodThreadState, good_state}
 use Rattle.obq_laws.proofs.Plugged.{step_keeps}
 use Rattle.obq_laws.proofs.Trails.{turned_same, turned_more, turned_less}
-use Rattle.obq_stands.specs.World.{Ref, same_ref, Memory, Segment, Slot, World}
+use Rattle.obq_stands.specs.World.{Ref, same_ref, Memory, PendingCall, Segment, Slot, World}
 use Rattle.obq_stands.specs.Events.{Run, windows, world_at}
 use Rattle.obq_base.specs.Tree.{BlockTree}
 use Rattle.obq_stands.specs.Stands.{around, StandsFor, after_steps}
@@ -26,9 +26,9 @@ use Rattle.obq_stands.specs.Begun.{IsLeft, IsEntered, HasBegun}
 use Rattle.obq_stands.specs.CellSites.{trail_of_state, trail_behind, IsNext, SegmentSites}
 use Rattle.obq_stands.proofs.BareFrames.{activations_plug, map_activations, bare_around, every_run_bare, formed_of}
 use Rattle.obq_stands.proofs.CellsThere.{config_of}
-use Rattle.obq_stands.proofs.Chains.{chained_base}
+use Rattle.obq_stands.proofs.Chains.{chained_base, bottom}
 use Rattle.obq_stands.proofs.Entered.{entered_steps, every_run_begun}
-use Rattle.obq_stands.proofs.Inside.{Base, step_in, needs_in, steps_in}
+use Rattle.obq_stands.proofs.Inside.{Base, step_in, needs_in, steps_in, found_alone}
 use Rattle.obq_stands.proofs.Memory.{reading, reading_agrees}
 use Rattle.obq_stands.proofs.Moves.{out_running}
 use Rattle.obq_stands.proofs.Opening.{every_run_stands}
@@ -36,7 +36,7 @@ use Rattle.obq_stands.proofs.Turns.{state_of}
 
 -- ---- runs of one site
 
-head_is : (n s : ℕ) (rest : List ℕ) → site_here rest ≡ s → site_here (replicate n s ++ rest) ≡ s
+pub head_is : (n s : ℕ) (rest : List ℕ) → site_here rest ≡ s → site_here (replicate n s ++ rest) ≡ s
 head_is zero s rest e = e
 head_is (suc n) s rest e = refl
 
@@ -63,12 +63,12 @@ turned_run site s d n n2 rest tr is there (inr (inr e)) =
 abbrev pub Heads : Term Ref → ℕ → List ℕ → Type 0
 Heads y s rest = (site_here rest ≡ s) ⊎ IsEntered y
 
-active : {R : Type 0} (t : Term R) → IsActivation t → (m : ℕ) × (activations_of t ≡ suc m)
+pub active : {R : Type 0} (t : Term R) → IsActivation t → (m : ℕ) × (activations_of t ≡ suc m)
 active (Form Called (Part u End)) h = (activations_of u + 0, refl)
 active (Form (Within o m) (Part u End)) h = (activations_of u + 0, refl)
 active _ h = absurd h
 
-left_quiet : {R : Type 0} (eq : R → R → Bool) (a : ℕ) (s : Self R) (t : Term R) → IsLeft t → IsNext (find eq a s t) → ⊥
+pub left_quiet : {R : Type 0} (eq : R → R → Bool) (a : ℕ) (s : Self R) (t : Term R) → IsLeft t → IsNext (find eq a s t) → ⊥
 left_quiet eq a s (Const v) h i = i
 left_quiet eq a s (Form (Raising r) End) h i = i
 left_quiet eq a s _ h i = absurd h
@@ -144,7 +144,7 @@ steps_run f tells gs d self base bare s rest (suc n) y x tr h e = by (next_of (f
 -- ---- a running segment of a World
 
 -- n pure steps of a running segment, in the whole term and in the trail
-pub record SegmentRun (m : Memory) (c : Config) (l : Located) (d : ℕ) (self : Self Ref) (s t n used : ℕ) (x : Term Ref) (rest : List ℕ) : Type 0 where
+pub record SegmentRun (m : Memory) (c : Config) (l : Located) (d : ℕ) (self : Self Ref) (an : Option PendingCall) (s t n used : ℕ) (x : Term Ref) (rest : List ℕ) : Type 0 where
   pub before : Term ℕ
   pub behind : Term ℕ
   pub here : slice_get c.threads t ≡ Some (state_of (Running before) used)
@@ -154,11 +154,12 @@ pub record SegmentRun (m : Memory) (c : Config) (l : Located) (d : ℕ) (self : 
   pub heads : Heads x s rest
   pub formed : IsFormed no_self behind
   pub found : (op : Operation Ref) (hs : List (Frame Ref)) → find same_ref d self x ≡ Needs op hs → (gs : List (Frame ℕ)) × (find same_loc 0 no_self behind ≡ Needs (map_operation (reading m 0) op) gs)
+  pub last : an ≡ None → find same_loc 0 no_self behind ≡ map_found (reading m 0) (find same_ref d self x)
 
 pub segment_run : (trees : List BlockTree) (turns : ℕ) (w : World) (inv : StandsFor trees turns w) (l : Located) (s t n : ℕ) (slot : Slot) (x : Term Ref) (rest : List ℕ) → Run turns (world_at (windows 0 trees)) w → w.running s t ≡ Some slot
     → slice_index_or l.thread_sites t [] ≡ replicate (activations_of slot.segment.window) s ++ rest → (slot.segment.answers ≡ None → site_here rest ≡ s) → after_steps slot.segment.depth slot.segment.self n slot.segment.window ≡ Some x
-    → SegmentRun w.memory inv.config l slot.segment.depth slot.segment.self s t n slot.used x rest
-segment_run trees turns w inv l s t n slot x rest run is trail bottom e =
+    → SegmentRun w.memory inv.config l slot.segment.depth slot.segment.self slot.segment.answers s t n slot.used x rest
+segment_run trees turns w inv l s t n slot x rest run is trail outer e =
     let c : Config = inv.config in
     let goes = (out_running turns w c s t slot inv.stands is).1 in
     let reads = goes.reads in
@@ -172,7 +173,7 @@ segment_run trees turns w inv l s t n slot x rest run is trail bottom e =
     let formed = formed_of trees turns w inv in
     let good : GoodThreadState c.store (Some (state_of (Running u) slot.used)) = subst (GoodThreadState c.store) here (good_state c.store c.threads t formed.0.1 formed.1) in
     let tr : Trail = (slice_index_or l.thread_sites t [], l.replies) in
-    let heads : Heads slot.segment.window s rest = heads_of slot.segment s rest bottom ((every_run_begun trees turns w run).runs s t slot is) in
+    let heads : Heads slot.segment.window s rest = heads_of slot.segment s rest outer ((every_run_begun trees turns w run).runs s t slot is) in
     let done : Behind f0 gs s rest x (located.after_steps n u tr) = steps_run f0 a0.tells gs slot.segment.depth slot.segment.self base bare s rest n slot.segment.window x tr (trail, heads, good.0) e in
     record {
       before = u;
@@ -184,15 +185,18 @@ segment_run trees turns w inv l s t n slot x rest run is trail bottom e =
       heads = done.1;
       formed = done.2;
       found = λ op hs q. (gs ++ map_frames f0 hs, needs_in f0 a0.tells gs slot.segment.depth slot.segment.self base x op hs q);
+      last = λ none.
+          let b = bottom w.pending t slot.segment.depth slot.segment.self slot.segment.answers reads.links none reads.chained in
+          ap (λ ls. find same_loc 0 no_self (plug (around f0 ls) (map_term f0 x))) b.0 ∙ found_alone f0 a0.tells x ∙ ap (λ z. map_found f0 (find same_ref 0 z x)) (sym b.2) ∙ ap (λ k. map_found f0 (find same_ref k slot.segment.self x)) (sym b.1);
     }
   where
     heads_of : (seg : Segment) (s : ℕ) (rest : List ℕ) → (seg.answers ≡ None → site_here rest ≡ s) → HasBegun seg → Heads seg.window s rest
-    heads_of seg s rest bottom (inl none) = inl (bottom none)
-    heads_of seg s rest bottom (inr h) = inr h
+    heads_of seg s rest outer (inl none) = inl (outer none)
+    heads_of seg s rest outer (inr h) = inr h
 
 pub segment_sites : SegmentSites
-segment_sites trees turns w l s t n slot x rest run r is trail bottom e =
+segment_sites trees turns w l s t n slot x rest run r is trail outer e =
     let inv = every_run_stands trees turns w run in
-    let k = segment_run trees turns w inv l s t n slot x rest run is trail bottom e in
+    let k = segment_run trees turns w inv l s t n slot x rest run is trail outer e in
     let there : trail_behind l t n ≡ (located.after_steps n k.before (slice_index_or l.thread_sites t [], l.replies)).0 = ap (trail_of_state l t n) (ap (λ (c : Config). slice_get c.threads t) (sym (config_of trees turns w l inv r)) ∙ k.here) in
     (there ∙ k.trail, (λ next. ap site_here (there ∙ k.trail) ∙ site_is slot.segment.depth slot.segment.self x s rest k.heads next))

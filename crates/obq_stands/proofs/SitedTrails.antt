@@ -35,8 +35,8 @@ use Rattle.obq_stands.proofs.Update.{same_or, at2_same, at2_other}
 -- ---- a running segment and its trail
 
 -- where a running segment's thread is behind n pure steps
-abbrev RunAt : (trees : List BlockTree) (turns : ℕ) (w : World) → StandsFor trees turns w → Located → (s t n : ℕ) → Slot → Term Ref → List Link → Type 0
-RunAt trees turns w inv l s t n slot u ls = SegmentRun w.memory inv.config l slot.segment.depth slot.segment.self s t n slot.used u (sites_around s ls)
+abbrev pub RunAt : (trees : List BlockTree) (turns : ℕ) (w : World) → StandsFor trees turns w → Located → (s t n : ℕ) → Slot → Term Ref → List Link → Type 0
+RunAt trees turns w inv l s t n slot u ls = SegmentRun w.memory inv.config l slot.segment.depth slot.segment.self slot.segment.answers s t n slot.used u (sites_around s ls)
 
 -- the trail of its thread
 pub own_trail : (trees : List BlockTree) (turns : ℕ) (w : World) (inv : StandsFor trees turns w) (l : Located) (s t d : ℕ) (slot : Slot) (self : Self Ref) (ls : List Link) → located_run trees turns w.journal ≡ Some l → AreTrails trees turns w inv l

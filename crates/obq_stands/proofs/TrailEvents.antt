@@ -46,7 +46,7 @@ first_link p t l m e f g = let h : p m.key.site m.key.number ≡ Some (record { 
     let one : record { thread = t; segment = l.segment } ≡ record { thread = t; segment = m.segment } = cc (h, g) in
     ap (λ (z : Suspended). z.segment) one
 
-same_frames : (l : Segment) (m : Segment) (op op2 : Operation Ref) (hs gs : List (Frame Ref)) → l ≡ m → find same_ref l.depth l.self l.window ≡ Needs op hs → find same_ref m.depth m.self m.window ≡ Needs op2 gs → hs ≡ gs
+pub same_frames : (l : Segment) (m : Segment) (op op2 : Operation Ref) (hs gs : List (Frame Ref)) → l ≡ m → find same_ref l.depth l.self l.window ≡ Needs op hs → find same_ref m.depth m.self m.window ≡ Needs op2 gs → hs ≡ gs
 same_frames l m op op2 hs gs e f g = let h : find same_ref m.depth m.self m.window ≡ Needs op hs = subst (λ (z : Segment). find same_ref z.depth z.self z.window ≡ Needs op hs) e f in cc (h, g)
 
 pub same_ops : (l : Segment) (m : Segment) (op op2 : Operation Ref) (hs gs : List (Frame Ref)) → l ≡ m → find same_ref l.depth l.self l.window ≡ Needs op hs → find same_ref m.depth m.self m.window ≡ Needs op2 gs → op ≡ op2
@@ -102,7 +102,7 @@ may_left f (Leave o out) h = absurd h
 may_left f op h = refl
 
 -- the activations of a window are those around the operation that is asked for
-asked_acts : (trees : List BlockTree) (turns : ℕ) (w : World) (inv : StandsFor trees turns w) (s t : ℕ) (slot : Slot) (op : Operation Ref) (hs : List (Frame Ref)) → ArePendingBare w → w.running s t ≡ Some slot → MayAsk op
+pub asked_acts : (trees : List BlockTree) (turns : ℕ) (w : World) (inv : StandsFor trees turns w) (s t : ℕ) (slot : Slot) (op : Operation Ref) (hs : List (Frame Ref)) → ArePendingBare w → w.running s t ≡ Some slot → MayAsk op
     → find same_ref slot.segment.depth slot.segment.self slot.segment.window ≡ Needs op hs → activations_of slot.segment.window ≡ activations_at 0 hs
 asked_acts trees turns w inv s t slot op hs bare is may e =
     let c : Config = inv.config in
@@ -158,7 +158,7 @@ asks_trail trees turns w inv s t k slot op hs tr bare is may e h d self (l ∷ l
 
 -- ---- a segment at its bottom answers
 
-out_none : (x : Term Ref) (o : Outcome Ref) → IsOut x o → activations_of x ≡ 0
+pub out_none : (x : Term Ref) (o : Outcome Ref) → IsOut x o → activations_of x ≡ 0
 out_none x (Answer v) e = ap activations_of e
 out_none x (RaisedUp r) e = ap activations_of e
 out_none x (HopTo p y) e = absurd e

@@ -15,6 +15,8 @@ use Rattle.obq_stands.specs.World as result
 use Rattle.obq_stands.specs.Stands.{IsCall, after_steps}
 use Rattle.obq_stands.specs.Watch.{Watch}
 use Rattle.obq_stands.specs.Joined.{Beside, HasNoAct, WatchStep}
+use Rattle.obq_stands.specs.AtSites.{IsSited}
+use Rattle.obq_stands.specs.WatchRuns.{IsSitedBeside}
 use Rattle.obq_stands.specs.Events.{with_window, moved, calling, answering, ends_as, IsOut, Step}
 use Rattle.obq_model.specs.OneCell.{cell_of}
 use Rattle.obq_base.specs.declared.limits.TheConstants.{THREAD_LIMIT}
@@ -63,12 +65,16 @@ pub data Did (s : ℕ) (h : Heap) (count t : ℕ) (z : Self Ref) : Operation Ref
       → o.site ≡ s → c.site ≡ s → h o ≡ Some x → h c ≡ Some y → again_row Ends Idle t (in_line t (line_of (Some y.cell))) o c guard (Some x.cell) ≡ Ends kind left focus
       → Did s h count t z (Again o c guard) kind x.born (left_at h o x.born left) count focus
 
--- Each law below says that what one site did is an event of the World of all sites. So what every event keeps holds behind it: that the World stands for the
--- replay of its journal, homes, counts, cells.
+-- Each law below says that what one site did is an event of the World of all sites, and that its act is done at its site. So what every such event keeps holds
+-- behind it: that the World stands for the replay of its journal, homes, trails, counts, cells.
+
+-- an event whose act is done at its site, whichever site the name server is
+abbrev pub AtItsSite : ℕ → World → World → Type 0
+AtItsSite turns w x = (p : Step turns w x) × ((server : ℕ) → IsSited server p)
 
 -- an event in which no operation is done
 abbrev pub Quiet : ℕ → World → World → Type 0
-Quiet turns w x = (s : Step turns w x) × HasNoAct s
+Quiet turns w x = (p : Step turns w x) × HasNoAct p × ((server : ℕ) → IsSited server p)
 
 -- a commit with n pure steps and an act that site s did
 abbrev pub SiteActs : Type 0
@@ -76,7 +82,7 @@ SiteActs =
     (turns : ℕ) (sites : ℕ → Site) (rest : Rest) (s t n : ℕ) (slot : Slot) (u : Term Ref) (op : Operation Ref) (hs : List (Frame Ref)) (kind : ActKind) (loc : ℕ) (h : Heap) (count : ℕ) (x : Term Ref)
     → (sites s).running t ≡ Some slot → slot.used + n < turns → after_steps slot.segment.depth slot.segment.self n slot.segment.window ≡ Some u
     → find same_ref slot.segment.depth slot.segment.self u ≡ Needs op hs → Did s (sites s).heap rest.count t (self_at slot.segment.self hs) op kind loc h count x
-    → Step turns (assembled sites rest) (assembled (with_at sites s (record (sites s) { heap = h; running = with_at (sites s).running t (Some (moved slot (n + 1) (plug hs x))) }))
+    → AtItsSite turns (assembled sites rest) (assembled (with_at sites s (record (sites s) { heap = h; running = with_at (sites s).running t (Some (moved slot (n + 1) (plug hs x))) }))
     (record rest { count = count; journal = rest.journal ++ entry_of t n (Some (act kind loc)) ∷ [] }))
 
 -- site s with another running segment of thread t, and so on
@@ -95,7 +101,7 @@ abbrev pub SiteJoins : Type 0
 SiteJoins =
     (turns : ℕ) (sites : ℕ → Site) (rest : Rest) (s t n v b : ℕ) (e : Ending) (slot : Slot) (u : Term Ref) (hs : List (Frame Ref)) → (sites s).running t ≡ Some slot → slot.used + n < turns
     → after_steps slot.segment.depth slot.segment.self n slot.segment.window ≡ Some u → find same_ref slot.segment.depth slot.segment.self u ≡ Needs (JoinWith v) hs → (sites b).ended v ≡ Some e
-    → Step turns (assembled sites rest) (assembled (with_at sites s (runs_at sites s t (Some (moved slot (n + 1) (plug hs (ending_term e)))))) (record rest { journal = rest.journal ++ entry_of t n (Some (act ActKind.Join v)) ∷ [] }))
+    → (p : Step turns (assembled sites rest) (assembled (with_at sites s (runs_at sites s t (Some (moved slot (n + 1) (plug hs (ending_term e)))))) (record rest { journal = rest.journal ++ entry_of t n (Some (act ActKind.Join v)) ∷ [] }))) × (b ≡ s → (server : ℕ) → IsSited server p)
 
 -- a commit with a fork: the thread begins at the same site
 abbrev pub SiteForks : Type 0
@@ -110,7 +116,7 @@ abbrev pub SiteForkRefused : Type 0
 SiteForkRefused =
     (turns : ℕ) (sites : ℕ → Site) (rest : Rest) (s t n : ℕ) (slot : Slot) (u : Term Ref) (v : Value Ref) (hs : List (Frame Ref)) → (sites s).running t ≡ Some slot → slot.used + n < turns
     → after_steps slot.segment.depth slot.segment.self n slot.segment.window ≡ Some u → find same_ref slot.segment.depth slot.segment.self u ≡ Needs (ForkOff v) hs → nat_le THREAD_LIMIT rest.threads ≡ true
-    → Step turns (assembled sites rest) (assembled (with_at sites s (runs_at sites s t (Some (moved slot (n + 1) (plug hs fork_limit))))) (record rest { journal = rest.journal ++ entry_of t n (Some (act ActKind.Fork THREAD_LIMIT)) ∷ [] }))
+    → AtItsSite turns (assembled sites rest) (assembled (with_at sites s (runs_at sites s t (Some (moved slot (n + 1) (plug hs fork_limit))))) (record rest { journal = rest.journal ++ entry_of t n (Some (act ActKind.Fork THREAD_LIMIT)) ∷ [] }))
 
 -- a commit with the end of a thread, whose ending is kept at its site
 abbrev pub SiteEnds : Type 0
@@ -129,15 +135,16 @@ abbrev pub SiteAsks : Type 0
 SiteAsks =
     (turns : ℕ) (sites : ℕ → Site) (rest : Rest) (s t to k : ℕ) (slot : Slot) (op : Operation Ref) (hs : List (Frame Ref)) → (sites s).running t ≡ Some slot → slot.used < turns
     → find same_ref slot.segment.depth slot.segment.self slot.segment.window ≡ Needs op hs → (sites s).pending k ≡ None
-    → Quiet turns (assembled sites rest) (assembled (with_at sites s (record (sites s) { running = with_at (sites s).running t None; pending = with_at (sites s).pending k (Some (record { thread = t; segment = slot.segment })) }))
-    (record rest { lines = posted rest.lines s to (Request t k slot.used (activations_at slot.segment.depth hs) (self_at slot.segment.self hs) (wire op)) }))
+    → (p : Step turns (assembled sites rest) (assembled (with_at sites s (record (sites s) { running = with_at (sites s).running t None; pending = with_at (sites s).pending k (Some (record { thread = t; segment = slot.segment })) }))
+    (record rest { lines = posted rest.lines s to (Request t k slot.used (activations_at slot.segment.depth hs) (self_at slot.segment.self hs) (wire op)) })))
+    × HasNoAct p × (MayAsk op → (server : ℕ) → IsSited server p)
 
 -- the first packet of the line from a to b is a request that site b does, and whose reply is posted
 abbrev pub SiteServes : Type 0
 SiteServes =
     (turns : ℕ) (sites : ℕ → Site) (rest : Rest) (a b t k used depth : ℕ) (self : Self Ref) (op : Operation Ref) (ps : List Packet) (kind : ActKind) (loc : ℕ) (h : Heap) (count : ℕ) (x : Term Ref) (o : Outcome Ref)
     → rest.lines a b ≡ Request t k used depth self op ∷ ps → MayAsk op → Did b (sites b).heap rest.count t self op kind loc h count x → result_of x ≡ Gives o
-    → Step turns (assembled sites rest) (assembled (with_at sites b (record (sites b) { heap = h }))
+    → AtItsSite turns (assembled sites rest) (assembled (with_at sites b (record (sites b) { heap = h }))
     (record rest { count = count; lines = posted (at2 rest.lines a b ps) b a (Reply t k (used + 1) o); journal = rest.journal ++ entry_of t 0 (Some (act kind loc)) ∷ [] }))
 
 -- or in which an activation begins
@@ -145,7 +152,7 @@ abbrev pub SiteEnters : Type 0
 SiteEnters =
     (turns : ℕ) (sites : ℕ → Site) (rest : Rest) (a b t k used depth : ℕ) (self : Self Ref) (op : Operation Ref) (ps : List Packet) (kind : ActKind) (loc : ℕ) (h : Heap) (count : ℕ) (x y : Term Ref)
     → rest.lines a b ≡ Request t k used depth self op ∷ ps → IsCall op → Did b (sites b).heap rest.count t self op kind loc h count x → result_of x ≡ result.Enters y
-    → Step turns (assembled sites rest) (assembled (with_at sites b (record (sites b) { heap = h; running = with_at (sites b).running t (Some (answering a k used depth self y)) }))
+    → AtItsSite turns (assembled sites rest) (assembled (with_at sites b (record (sites b) { heap = h; running = with_at (sites b).running t (Some (answering a k used depth self y)) }))
     (record rest { count = count; lines = at2 rest.lines a b ps; journal = rest.journal ++ entry_of t 0 (Some (act kind loc)) ∷ [] }))
 
 -- a segment at its bottom answers
@@ -171,14 +178,14 @@ SiteHolds =
 abbrev pub SiteRetries : Type 0
 SiteRetries =
     (turns : ℕ) (sites : ℕ → Site) (rest : Rest) (a b t k used depth : ℕ) (self : Self Ref) (op : Operation Ref) (kind : ActKind) (loc : ℕ) (h : Heap) (count : ℕ) (x : Term Ref) (o : Outcome Ref) → (sites b).waiting t ≡ Some (record { from = a; packet = Request t k used depth self op }) → MayAsk op → Did b (sites b).heap rest.count t self op kind loc h count x → result_of x ≡ Gives o
-    → Step turns (assembled sites rest) (assembled (with_at sites b (record (sites b) { heap = h; waiting = with_at (sites b).waiting t None }))
+    → AtItsSite turns (assembled sites rest) (assembled (with_at sites b (record (sites b) { heap = h; waiting = with_at (sites b).waiting t None }))
     (record rest { count = count; lines = posted rest.lines b a (Reply t k (used + 1) o); journal = rest.journal ++ entry_of t 0 (Some (act kind loc)) ∷ [] }))
 
 -- or an activation begins
 abbrev pub SiteRetriesEntering : Type 0
 SiteRetriesEntering =
     (turns : ℕ) (sites : ℕ → Site) (rest : Rest) (a b t k used depth : ℕ) (self : Self Ref) (op : Operation Ref) (kind : ActKind) (loc : ℕ) (h : Heap) (count : ℕ) (x y : Term Ref) → (sites b).waiting t ≡ Some (record { from = a; packet = Request t k used depth self op }) → IsCall op → Did b (sites b).heap rest.count t self op kind loc h count x → result_of x ≡ result.Enters y
-    → Step turns (assembled sites rest) (assembled (with_at sites b (record (sites b) { heap = h; running = with_at (sites b).running t (Some (answering a k used depth self y)); waiting = with_at (sites b).waiting t None }))
+    → AtItsSite turns (assembled sites rest) (assembled (with_at sites b (record (sites b) { heap = h; running = with_at (sites b).running t (Some (answering a k used depth self y)); waiting = with_at (sites b).waiting t None }))
     (record rest { count = count; journal = rest.journal ++ entry_of t 0 (Some (act kind loc)) ∷ [] }))
 
 -- ---- endings and names
@@ -189,26 +196,36 @@ pub data Named (ended : ℕ → Option Ending) (names : List (Bytes × Value Ref
   ExportedHere : (x : Bytes) (v : Value Ref) → Named ended names (Export x v) ActKind.Export 0 (export x v names) (Const Okay)
   ImportedHere : (x : Bytes) (engine : Bool) (kind : ActKind) (focus : Term Ref) → import_row Ends Idle engine (exported x names) ≡ Ends kind None focus → Named ended names (Import x engine) kind 0 names focus
 
+-- such an operation is done at this site: a name at the name server, an ending where it is kept
+abbrev pub IsForNames : Operation Ref → (server site : ℕ) → Type 0
+IsForNames (Export x v) server site = server ≡ site
+IsForNames (Import x engine) server site = server ≡ site
+IsForNames op server site = Unit {0}
+
+-- an event with such an act at this site
+abbrev pub AtNames : ℕ → Operation Ref → ℕ → World → World → Type 0
+AtNames turns op site w x = (p : Step turns w x) × ((server : ℕ) → IsForNames op server site → IsSited server p)
+
 -- a commit with such an act, done where it is asked for
 abbrev pub SiteNames : Type 0
 SiteNames =
     (turns : ℕ) (sites : ℕ → Site) (rest : Rest) (s t n : ℕ) (slot : Slot) (u : Term Ref) (op : Operation Ref) (hs : List (Frame Ref)) (kind : ActKind) (loc : ℕ) (names : List (Bytes × Value Ref)) (x : Term Ref)
     → (sites s).running t ≡ Some slot → slot.used + n < turns → after_steps slot.segment.depth slot.segment.self n slot.segment.window ≡ Some u
     → find same_ref slot.segment.depth slot.segment.self u ≡ Needs op hs → Named (sites s).ended rest.names op kind loc names x
-    → Step turns (assembled sites rest) (assembled (with_at sites s (runs_at sites s t (Some (moved slot (n + 1) (plug hs x))))) (record rest { names = names; journal = rest.journal ++ entry_of t n (Some (act kind loc)) ∷ [] }))
+    → AtNames turns op s (assembled sites rest) (assembled (with_at sites s (runs_at sites s t (Some (moved slot (n + 1) (plug hs x))))) (record rest { names = names; journal = rest.journal ++ entry_of t n (Some (act kind loc)) ∷ [] }))
 
 -- the first packet of the line from a to b is a request for it, whose reply is posted: no site changes
 abbrev pub SiteServesNames : Type 0
 SiteServesNames =
     (turns : ℕ) (sites : ℕ → Site) (rest : Rest) (a b t k used depth : ℕ) (self : Self Ref) (op : Operation Ref) (ps : List Packet) (kind : ActKind) (loc : ℕ) (names : List (Bytes × Value Ref)) (x : Term Ref) (o : Outcome Ref)
     → rest.lines a b ≡ Request t k used depth self op ∷ ps → Named (sites b).ended rest.names op kind loc names x → result_of x ≡ Gives o
-    → Step turns (assembled sites rest) (assembled sites (record rest { names = names; lines = posted (at2 rest.lines a b ps) b a (Reply t k (used + 1) o); journal = rest.journal ++ entry_of t 0 (Some (act kind loc)) ∷ [] }))
+    → AtNames turns op b (assembled sites rest) (assembled sites (record rest { names = names; lines = posted (at2 rest.lines a b ps) b a (Reply t k (used + 1) o); journal = rest.journal ++ entry_of t 0 (Some (act kind loc)) ∷ [] }))
 
 -- or one that waited
 abbrev pub SiteRetriesNames : Type 0
 SiteRetriesNames =
     (turns : ℕ) (sites : ℕ → Site) (rest : Rest) (a b t k used depth : ℕ) (self : Self Ref) (op : Operation Ref) (kind : ActKind) (loc : ℕ) (names : List (Bytes × Value Ref)) (x : Term Ref) (o : Outcome Ref) → (sites b).waiting t ≡ Some (record { from = a; packet = Request t k used depth self op }) → Named (sites b).ended rest.names op kind loc names x → result_of x ≡ Gives o
-    → Step turns (assembled sites rest) (assembled (with_at sites b (record (sites b) { waiting = with_at (sites b).waiting t None }))
+    → AtNames turns op b (assembled sites rest) (assembled (with_at sites b (record (sites b) { waiting = with_at (sites b).waiting t None }))
     (record rest { names = names; lines = posted rest.lines b a (Reply t k (used + 1) o); journal = rest.journal ++ entry_of t 0 (Some (act kind loc)) ∷ [] }))
 
 -- ---- watches over two sites
@@ -221,13 +238,20 @@ pub record WatchSite : Type 0 where
 abbrev pub watch_of : (ℕ → WatchSite) → (ℕ → ℕ → List Packet) → Watch
 watch_of ws wakes = record { wakes = wakes; noted = λ s t. (ws s).noted t; notes = λ s t. (ws s).notes t }
 
+-- an event with watches whose act is done at its site, and one on a name or an ending
+abbrev pub AtItsSiteBeside : ℕ → World → Watch → World → Watch → Type 0
+AtItsSiteBeside turns w e x e2 = (p : WatchStep turns w e x e2) × ((server : ℕ) → IsSitedBeside server p)
+
+abbrev pub AtNamesBeside : ℕ → Operation Ref → ℕ → World → Watch → World → Watch → Type 0
+AtNamesBeside turns op site w e x e2 = (p : WatchStep turns w e x e2) × ((server : ℕ) → IsForNames op server site → IsSitedBeside server p)
+
 -- a commit with an Again over two sites: the object's site looks at its object and at the noted wake
 abbrev pub SiteRetakes : Type 0
 SiteRetakes =
     (turns : ℕ) (sites : ℕ → Site) (ws : ℕ → WatchSite) (wakes : ℕ → ℕ → List Packet) (rest : Rest) (s t n : ℕ) (slot : Slot) (u : Term Ref) (o q : Ref) (guard : Term Ref) (hs : List (Frame Ref)) (x : Born) (kind : ActKind) (left : Option (Cell Ref)) (focus : Term Ref) (k : Parked)
     → (sites s).running t ≡ Some slot → slot.used + n < turns → after_steps slot.segment.depth slot.segment.self n slot.segment.window ≡ Some u
     → find same_ref slot.segment.depth slot.segment.self u ≡ Needs (Again o q guard) hs → o.site ≡ s → (sites s).heap o ≡ Some x → (ws s).noted t ≡ Some k → again_row Ends Idle t false o q guard (Some x.cell) ≡ Ends kind left focus
-    → WatchStep turns (assembled sites rest) (watch_of ws wakes)
+    → AtItsSiteBeside turns (assembled sites rest) (watch_of ws wakes)
     (assembled (with_at sites s (record (sites s) { heap = left_at (sites s).heap o x.born left; running = with_at (sites s).running t (Some (moved slot (n + 1) (plug hs focus))) })) (record rest { journal = rest.journal ++ entry_of t n (Some (act kind x.born)) ∷ [] }))
     (watch_of (with_at ws s (record (ws s) { noted = with_at (ws s).noted t None })) wakes)
 
@@ -235,7 +259,7 @@ SiteRetakes =
 abbrev pub SiteDelivers : Type 0
 SiteDelivers =
     (turns : ℕ) (sites : ℕ → Site) (ws : ℕ → WatchSite) (wakes : ℕ → ℕ → List Packet) (rest : Rest) (a b : ℕ) (p : Packet) (ps : List Packet) → wakes a b ≡ p ∷ ps
-    → WatchStep turns (assembled sites rest) (watch_of ws wakes) (assembled sites rest) (watch_of (with_at ws b (record (ws b) { noted = with_at (ws b).noted (thread_of p) (Some (record { from = 0; packet = p })) })) (at2 wakes a b ps))
+    → AtItsSiteBeside turns (assembled sites rest) (watch_of ws wakes) (assembled sites rest) (watch_of (with_at ws b (record (ws b) { noted = with_at (ws b).noted (thread_of p) (Some (record { from = 0; packet = p })) })) (at2 wakes a b ps))
 
 -- a commit with any other act that site s did, with what is noted or posted beside it
 abbrev pub SiteActsBeside : Type 0
@@ -243,7 +267,7 @@ SiteActsBeside =
     (turns : ℕ) (sites : ℕ → Site) (e e2 : Watch) (rest : Rest) (s t n : ℕ) (slot : Slot) (u : Term Ref) (op : Operation Ref) (hs : List (Frame Ref)) (kind : ActKind) (loc : ℕ) (h : Heap) (count : ℕ) (x : Term Ref)
     → (sites s).running t ≡ Some slot → slot.used + n < turns → after_steps slot.segment.depth slot.segment.self n slot.segment.window ≡ Some u
     → find same_ref slot.segment.depth slot.segment.self u ≡ Needs op hs → Did s (sites s).heap rest.count t (self_at slot.segment.self hs) op kind loc h count x → Beside (assembled sites rest).memory.heap t op e e2
-    → WatchStep turns (assembled sites rest) e (assembled (with_at sites s (record (sites s) { heap = h; running = with_at (sites s).running t (Some (moved slot (n + 1) (plug hs x))) }))
+    → AtItsSiteBeside turns (assembled sites rest) e (assembled (with_at sites s (record (sites s) { heap = h; running = with_at (sites s).running t (Some (moved slot (n + 1) (plug hs x))) }))
     (record rest { count = count; journal = rest.journal ++ entry_of t n (Some (act kind loc)) ∷ [] })) e2
 
 -- the same of the first request in the line from a to b, whose reply is posted
@@ -251,7 +275,7 @@ abbrev pub SiteServesBeside : Type 0
 SiteServesBeside =
     (turns : ℕ) (sites : ℕ → Site) (e e2 : Watch) (rest : Rest) (a b t k used depth : ℕ) (self : Self Ref) (op : Operation Ref) (ps : List Packet) (kind : ActKind) (loc : ℕ) (h : Heap) (count : ℕ) (x : Term Ref) (o : Outcome Ref)
     → rest.lines a b ≡ Request t k used depth self op ∷ ps → MayAsk op → Did b (sites b).heap rest.count t self op kind loc h count x → Beside (assembled sites rest).memory.heap t op e e2 → result_of x ≡ Gives o
-    → WatchStep turns (assembled sites rest) e (assembled (with_at sites b (record (sites b) { heap = h }))
+    → AtItsSiteBeside turns (assembled sites rest) e (assembled (with_at sites b (record (sites b) { heap = h }))
     (record rest { count = count; lines = posted (at2 rest.lines a b ps) b a (Reply t k (used + 1) o); journal = rest.journal ++ entry_of t 0 (Some (act kind loc)) ∷ [] })) e2
 
 -- so a request by which an activation begins
@@ -259,7 +283,7 @@ abbrev pub SiteEntersBeside : Type 0
 SiteEntersBeside =
     (turns : ℕ) (sites : ℕ → Site) (e e2 : Watch) (rest : Rest) (a b t k used depth : ℕ) (self : Self Ref) (op : Operation Ref) (ps : List Packet) (kind : ActKind) (loc : ℕ) (h : Heap) (count : ℕ) (x y : Term Ref)
     → rest.lines a b ≡ Request t k used depth self op ∷ ps → IsCall op → Did b (sites b).heap rest.count t self op kind loc h count x → Beside (assembled sites rest).memory.heap t op e e2 → result_of x ≡ result.Enters y
-    → WatchStep turns (assembled sites rest) e (assembled (with_at sites b (record (sites b) { heap = h; running = with_at (sites b).running t (Some (answering a k used depth self y)) }))
+    → AtItsSiteBeside turns (assembled sites rest) e (assembled (with_at sites b (record (sites b) { heap = h; running = with_at (sites b).running t (Some (answering a k used depth self y)) }))
     (record rest { count = count; lines = at2 rest.lines a b ps; journal = rest.journal ++ entry_of t 0 (Some (act kind loc)) ∷ [] })) e2
 
 -- and each of these of a request that waited
@@ -267,14 +291,14 @@ abbrev pub SiteRetriesBeside : Type 0
 SiteRetriesBeside =
     (turns : ℕ) (sites : ℕ → Site) (e e2 : Watch) (rest : Rest) (a b t k used depth : ℕ) (self : Self Ref) (op : Operation Ref) (kind : ActKind) (loc : ℕ) (h : Heap) (count : ℕ) (x : Term Ref) (o : Outcome Ref)
     → (sites b).waiting t ≡ Some (record { from = a; packet = Request t k used depth self op }) → MayAsk op → Did b (sites b).heap rest.count t self op kind loc h count x → Beside (assembled sites rest).memory.heap t op e e2 → result_of x ≡ Gives o
-    → WatchStep turns (assembled sites rest) e (assembled (with_at sites b (record (sites b) { heap = h; waiting = with_at (sites b).waiting t None }))
+    → AtItsSiteBeside turns (assembled sites rest) e (assembled (with_at sites b (record (sites b) { heap = h; waiting = with_at (sites b).waiting t None }))
     (record rest { count = count; lines = posted rest.lines b a (Reply t k (used + 1) o); journal = rest.journal ++ entry_of t 0 (Some (act kind loc)) ∷ [] })) e2
 
 abbrev pub SiteRetriesEnteringBeside : Type 0
 SiteRetriesEnteringBeside =
     (turns : ℕ) (sites : ℕ → Site) (e e2 : Watch) (rest : Rest) (a b t k used depth : ℕ) (self : Self Ref) (op : Operation Ref) (kind : ActKind) (loc : ℕ) (h : Heap) (count : ℕ) (x y : Term Ref)
     → (sites b).waiting t ≡ Some (record { from = a; packet = Request t k used depth self op }) → IsCall op → Did b (sites b).heap rest.count t self op kind loc h count x → Beside (assembled sites rest).memory.heap t op e e2 → result_of x ≡ result.Enters y
-    → WatchStep turns (assembled sites rest) e (assembled (with_at sites b (record (sites b) { heap = h; running = with_at (sites b).running t (Some (answering a k used depth self y)); waiting = with_at (sites b).waiting t None }))
+    → AtItsSiteBeside turns (assembled sites rest) e (assembled (with_at sites b (record (sites b) { heap = h; running = with_at (sites b).running t (Some (answering a k used depth self y)); waiting = with_at (sites b).waiting t None }))
     (record rest { count = count; journal = rest.journal ++ entry_of t 0 (Some (act kind loc)) ∷ [] })) e2
 
 -- an act beside which nothing is noted or posted, on an ending that is kept or on the exported names: at home, of a request, and of one that waited
@@ -283,17 +307,17 @@ SiteNamesBeside =
     (turns : ℕ) (sites : ℕ → Site) (watch : Watch) (rest : Rest) (s t n : ℕ) (slot : Slot) (u : Term Ref) (op : Operation Ref) (hs : List (Frame Ref)) (kind : ActKind) (loc : ℕ) (names : List (Bytes × Value Ref)) (x : Term Ref)
     → (sites s).running t ≡ Some slot → slot.used + n < turns → after_steps slot.segment.depth slot.segment.self n slot.segment.window ≡ Some u
     → find same_ref slot.segment.depth slot.segment.self u ≡ Needs op hs → Named (sites s).ended rest.names op kind loc names x
-    → WatchStep turns (assembled sites rest) watch (assembled (with_at sites s (runs_at sites s t (Some (moved slot (n + 1) (plug hs x))))) (record rest { names = names; journal = rest.journal ++ entry_of t n (Some (act kind loc)) ∷ [] })) watch
+    → AtNamesBeside turns op s (assembled sites rest) watch (assembled (with_at sites s (runs_at sites s t (Some (moved slot (n + 1) (plug hs x))))) (record rest { names = names; journal = rest.journal ++ entry_of t n (Some (act kind loc)) ∷ [] })) watch
 
 abbrev pub SiteServesNamesBeside : Type 0
 SiteServesNamesBeside =
     (turns : ℕ) (sites : ℕ → Site) (watch : Watch) (rest : Rest) (a b t k used depth : ℕ) (self : Self Ref) (op : Operation Ref) (ps : List Packet) (kind : ActKind) (loc : ℕ) (names : List (Bytes × Value Ref)) (x : Term Ref) (o : Outcome Ref)
     → rest.lines a b ≡ Request t k used depth self op ∷ ps → Named (sites b).ended rest.names op kind loc names x → result_of x ≡ Gives o
-    → WatchStep turns (assembled sites rest) watch (assembled sites (record rest { names = names; lines = posted (at2 rest.lines a b ps) b a (Reply t k (used + 1) o); journal = rest.journal ++ entry_of t 0 (Some (act kind loc)) ∷ [] })) watch
+    → AtNamesBeside turns op b (assembled sites rest) watch (assembled sites (record rest { names = names; lines = posted (at2 rest.lines a b ps) b a (Reply t k (used + 1) o); journal = rest.journal ++ entry_of t 0 (Some (act kind loc)) ∷ [] })) watch
 
 abbrev pub SiteRetriesNamesBeside : Type 0
 SiteRetriesNamesBeside =
     (turns : ℕ) (sites : ℕ → Site) (watch : Watch) (rest : Rest) (a b t k used depth : ℕ) (self : Self Ref) (op : Operation Ref) (kind : ActKind) (loc : ℕ) (names : List (Bytes × Value Ref)) (x : Term Ref) (o : Outcome Ref)
     → (sites b).waiting t ≡ Some (record { from = a; packet = Request t k used depth self op }) → Named (sites b).ended rest.names op kind loc names x → result_of x ≡ Gives o
-    → WatchStep turns (assembled sites rest) watch (assembled (with_at sites b (record (sites b) { waiting = with_at (sites b).waiting t None }))
+    → AtNamesBeside turns op b (assembled sites rest) watch (assembled (with_at sites b (record (sites b) { waiting = with_at (sites b).waiting t None }))
     (record rest { names = names; lines = posted rest.lines b a (Reply t k (used + 1) o); journal = rest.journal ++ entry_of t 0 (Some (act kind loc)) ∷ [] })) watch
