@@ -1,24 +1,22 @@
 -- No activation stands behind the holes of suspended segments, so the activations of a thread are those of its segments.
-use Rattle.std.specs.Prelude.{List, Option, Some, None, [], ◌∷◌, ◌++◌, ℕ, suc, refl, ◌+◌, ◌<◌, ◌≡◌, ◌⊎◌}
-use Rattle.std.proofs.Common.{inl, inr, ap, sym, ◌∙◌, subst, arith}
+use Rattle.std.specs.Prelude.{List, Option, Some, None, [], ◌∷◌, ◌++◌, ℕ, refl, ◌+◌, ◌<◌, ◌≡◌}
+use Rattle.std.proofs.Common.{ap, sym, ◌∙◌, subst, arith}
 use Rattle.obq_base.specs.Tree.{BlockTree}
 use Rattle.obq_model.specs.Terms.{Value, Kind, Empty, Called, Within, Term, Const, Name, Under, Form, Parts, End, Part}
-use Rattle.obq_model.specs.Store.{same_loc}
-use Rattle.obq_model.specs.Step.{Self, no_self, Operation, Frame, Pending, values_before, plug, self_in, Needs, find, activations_in, activations_at}
+use Rattle.obq_model.specs.Step.{Self, no_self, Frame, Pending, values_before, plug, self_in, activations_in, activations_at}
 use Rattle.obq_model.specs.Forms.{AreSource}
-use Rattle.obq_model.specs.Config.{Running, ThreadState, Config}
+use Rattle.obq_model.specs.Config.{ThreadState, Config}
 use Rattle.obq_model.specs.Located.{activations_of, activations_of_parts, execution_activations, thread_activations}
 use Rattle.obq_model.specs.Maps.{map_kind, map_term, map_parts, map_frames}
-use Rattle.obq_model.specs.Replay.{replay}
 use Rattle.obq_laws.specs.Keeping.{IsFormedConfig, IsFormedIf}
 use Rattle.obq_laws.specs.Turns.{CanGo}
 use Rattle.obq_laws.proofs.Activated.{source_none}
 use Rattle.obq_laws.proofs.FewActivations.{next_source}
 use Rattle.obq_laws.proofs.Formed.{formed_replay}
 use Rattle.obq_laws.proofs.Methods.{AreSourceFrames}
-use Rattle.obq_stands.specs.World.{at2, Ref, same_ref, PendingCall, Slot, Suspended, Request, Reply, World}
+use Rattle.obq_stands.specs.World.{Ref, PendingCall, Slot, Suspended, Request, Reply, World}
 use Rattle.obq_stands.specs.Stands.{Link, Table, Chained, around, Stands, StandsFor}
-use Rattle.obq_stands.specs.Events.{Takes, OffLine, OffHold, Step, Steps, Acted, Forks, Finishes, Asks, Serves, Enters, Holds, Returns, Resumes, Run, Begin, Then, windows, world_at}
+use Rattle.obq_stands.specs.Events.{Steps, Acted, Forks, Finishes, Asks, Serves, Enters, Holds, Returns, Resumes, Run, Begin, Then, windows, world_at}
 use Rattle.obq_stands.specs.Around.{AreBare, IsBare, ArePendingBare, BareKept, SegmentActivations}
 use Rattle.obq_stands.proofs.Chains.{chained_base}
 use Rattle.obq_stands.proofs.Entered.{put_all_so, drop_all_so}
@@ -26,7 +24,6 @@ use Rattle.obq_stands.proofs.Events.{found_op}
 use Rattle.obq_stands.proofs.Memory.{reading, reading_agrees}
 use Rattle.obq_stands.proofs.Moves.{out_running, out_packet}
 use Rattle.obq_stands.proofs.Opening.{every_run_stands}
-use Rattle.obq_stands.proofs.Turns.{state_of}
 
 -- ---- activations of a term in the hole of frames
 
@@ -36,7 +33,7 @@ zero_plus n = omega arith
 plus_zero : (m n : ℕ) → n ≡ 0 → m + n ≡ m
 plus_zero m n e = omega arith
 
-none_before : {R : Type 0} (vs : List (Value R)) (parts : Parts R) → activations_of_parts (values_before vs parts) ≡ activations_of_parts parts
+pub none_before : {R : Type 0} (vs : List (Value R)) (parts : Parts R) → activations_of_parts (values_before vs parts) ≡ activations_of_parts parts
 none_before [] parts = refl
 none_before (v ∷ vs) parts = zero_plus (activations_of_parts (values_before vs parts)) ∙ none_before vs parts
 

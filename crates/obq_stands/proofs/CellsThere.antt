@@ -1,5 +1,5 @@
 -- Every event whose new cell is made where its thread is keeps that each cell is at its site.
-use Rattle.std.specs.Prelude.{Bool, List, Option, Some, None, [], ◌∷◌, ◌++◌, ℕ, suc, zero, true, false, if◌then◌else◌, length, map, nat_lt, option_map, refl, replicate, slice_get, slice_index_or, ◌+◌, ◌<◌, ◌≡◌, ◌⊎◌}
+use Rattle.std.specs.Prelude.{Bool, List, Option, Some, None, [], ◌∷◌, ◌++◌, ℕ, suc, zero, true, false, if◌then◌else◌, length, nat_lt, option_map, refl, slice_get, slice_index_or, ◌+◌, ◌<◌, ◌≡◌, ◌⊎◌}
 use Rattle.std.proofs.Common.{inl, inr, ap, sym, ◌∙◌, subst, arith}
 use Rattle.std.proofs.lemmas.Bool.Decides.{nat_tests}
 use Rattle.obq_base.specs.declared.acts.Act.{Act}
@@ -10,7 +10,7 @@ use Rattle.obq_model.specs.Terms.{Term}
 use Rattle.obq_model.specs.Store.{Cell}
 use Rattle.obq_model.specs.Step.{Self, Operation}
 use Rattle.obq_model.specs.Config.{Execution, Running, Returned, Failed, ThreadState, Config, act}
-use Rattle.obq_model.specs.Located.{Located, site_here, Trail, after_steps, with_more, locate_execution, locate_entry, with_waiting, first_sites, located_opening, located_run, located_replay}
+use Rattle.obq_model.specs.Located.{Located, site_here, after_steps, locate_execution, locate_entry, with_waiting, first_sites, located_opening, located_run}
 use Rattle.obq_model.specs.Replay.{take_entry, replay}
 use Rattle.obq_model.proofs.Slices.{get_below, push_same, push_other}
 use Rattle.obq_laws.specs.Determinism.{entry_of}
@@ -18,17 +18,28 @@ use Rattle.obq_laws.specs.Parts.{located_one}
 use Rattle.obq_laws.proofs.LocatedReplay.{located_is, located_replay_law}
 use Rattle.obq_laws.proofs.Parts.{located_more}
 use Rattle.obq_laws.proofs.Sites.{sited_run}
-use Rattle.obq_stands.specs.World.{Ref, Born, Heap, with_ref, Memory, with_left, with_made, MayAsk, Request, Reply, Ending, World}
+use Rattle.obq_stands.specs.World.{Ref, Born, with_ref, Memory, with_left, with_made, MayAsk, Request, Reply, Ending, World}
 use Rattle.obq_stands.specs.Stands.{StandsFor, Does, OnCell, Makes, Retakes, Joins, Exports, Imports, TooMany}
-use Rattle.obq_stands.specs.Events.{Step, Steps, Acted, Forks, Finishes, Asks, Serves, Enters, Holds, Returns, Resumes, Run, Begin, Then, windows, world_at}
-use Rattle.obq_stands.specs.CellSites.{AreAt, trail_of_execution, trail_of_state, site_behind, IsMadeAt, IsMadeThere, CellSitesKept, AreMadeThere, EveryRunAtSites}
+use Rattle.obq_stands.specs.Events.{Step, Steps, Acted, Forks, Finishes, Asks, Serves, Enters, Holds, Returns, Resumes, windows, world_at}
+use Rattle.obq_stands.specs.CellSites.{AreAt, trail_of_execution, trail_of_state, site_behind}
 use Rattle.obq_stands.proofs.Refs.{ref_or, with_ref_same, with_ref_other}
 use Rattle.obq_stands.proofs.Memory.{born_as}
 use Rattle.obq_stands.proofs.Moves.{out_running, out_packet}
 use Rattle.obq_stands.proofs.Turns.{state_of}
 use Rattle.obq_stands.proofs.Wired.{call_may}
-use Rattle.obq_stands.proofs.Opening.{first, every_run_stands}
-use Rattle.obq_stands.proofs.Kept.{step_keeps}
+use Rattle.obq_stands.proofs.Opening.{first}
+
+-- ---- new cells
+
+-- the new cell of an act, if it makes one, is at this site
+abbrev pub IsMadeAt : {m : Memory} {en : ℕ → ℕ → Option Ending} {threads t : ℕ} {s : Self Ref} {op : Operation Ref} {kind : ActKind} {loc : ℕ} {m2 : Memory} {x : Term Ref} → ℕ → Does m en threads t s op kind loc m2 x → Type 0
+IsMadeAt site (Makes r cell after free) = r.site ≡ site
+IsMadeAt site does = Unit {0}
+
+-- the new cell of an event is where its thread is
+abbrev pub IsMadeThere : {turns : ℕ} {w x : World} → Located → Step turns w x → Type 0
+IsMadeThere l (Acted w s t n slot u op hs kind loc m y is few e needs does) = IsMadeAt (site_behind l t n) does
+IsMadeThere l s = Unit {0}
 
 -- ---- heaps
 
@@ -188,38 +199,36 @@ served_at trees turns w x l l2 t s op kind loc y inv inv2 r r2 j h may does =
     never : (m n : ℕ) → m ≡ n → m ≡ suc n → ⊥
     never m n e f = absurd (omega arith)
 
-kept : (trees : List BlockTree) (turns : ℕ) (w x : World) (l l2 : Located) → StandsFor trees turns w → StandsFor trees turns x → located_run trees turns w.journal ≡ Some l → AreAt w.memory l.cell_sites
+-- an event whose new cell is where its thread is
+pub cells_kept : (trees : List BlockTree) (turns : ℕ) (w x : World) (l l2 : Located) → StandsFor trees turns w → StandsFor trees turns x → located_run trees turns w.journal ≡ Some l → AreAt w.memory l.cell_sites
     → (e : Step turns w x) → IsMadeThere l e → located_run trees turns x.journal ≡ Some l2 → AreAt x.memory l2.cell_sites
-kept trees turns w x l l2 inv inv2 r h (Steps _ s t n slot u is few e) made r2 = noted_at trees turns w x l l2 t n None inv inv2 r r2 refl refl h
-kept trees turns w x l l2 inv inv2 r h (Acted _ s t n slot u op hs kind loc m y is few e needs does) made r2 =
+cells_kept trees turns w x l l2 inv inv2 r h (Steps _ s t n slot u is few e) made r2 = noted_at trees turns w x l l2 t n None inv inv2 r r2 refl refl h
+cells_kept trees turns w x l l2 inv inv2 r h (Acted _ s t n slot u op hs kind loc m y is few e needs does) made r2 =
     let goes = (out_running turns w inv.config s t slot inv.stands is).1 in
     let here : slice_get l.config.threads t ≡ Some (state_of (Running goes.term) slot.used) = ap (λ (c : Config). slice_get c.threads t) (sym (config_of trees turns w l inv r)) ∙ goes.here in
     does_at w.memory w.ended w.threads t _ op kind loc m y l.cell_sites l2.cell_sites (site_behind l t n) ((sited_run trees turns w.journal l r).sites.0 ∙ cells_of trees turns w l inv r) h
     (entry_same trees turns w x l l2 t n (Some (act kind loc)) inv inv2 r r2 refl) (entry_more trees turns w x l l2 t n slot.used (act kind loc) goes.term inv inv2 r r2 refl here) does made
-kept trees turns w x l l2 inv inv2 r h (Forks _ s t n slot u v hs is few e needs room) made r2 = noted_at trees turns w x l l2 t n (Some (act ActKind.Fork w.threads)) inv inv2 r r2 refl refl h
-kept trees turns w x l l2 inv inv2 r h (Finishes _ s t n slot u e is none few steps ends) made r2 = noted_at trees turns w x l l2 t n (Some (act ActKind.End t)) inv inv2 r r2 refl refl h
-kept trees turns w x l l2 inv inv2 r h (Asks _ s t to k slot op hs is few needs free) made r2 = silent_at trees turns w x l l2 r r2 refl refl h
-kept trees turns w x l l2 inv inv2 r h (Serves _ w1 a b t k used depth self op kind loc m y o takes may does gives) made r2 =
+cells_kept trees turns w x l l2 inv inv2 r h (Forks _ s t n slot u v hs is few e needs room) made r2 = noted_at trees turns w x l l2 t n (Some (act ActKind.Fork w.threads)) inv inv2 r r2 refl refl h
+cells_kept trees turns w x l l2 inv inv2 r h (Finishes _ s t n slot u e is none few steps ends) made r2 = noted_at trees turns w x l l2 t n (Some (act ActKind.End t)) inv inv2 r r2 refl refl h
+cells_kept trees turns w x l l2 inv inv2 r h (Asks _ s t to k slot op hs is few needs free) made r2 = silent_at trees turns w x l l2 r r2 refl refl h
+cells_kept trees turns w x l l2 inv inv2 r h (Serves _ w1 a b t k used depth self op kind loc m y o takes may does gives) made r2 =
     let q = out_packet turns w inv.config a b (Request t k used depth self op) w1 inv.stands takes in
     served_at trees turns w x l l2 t self op kind loc y inv inv2 r r2 (ap (λ (es : List Entry). es ++ entry_of t 0 (Some (act kind loc)) ∷ []) q.journal) h may does
-kept trees turns w x l l2 inv inv2 r h (Enters _ w1 a b t k used depth self op kind loc m y z takes call does enters) made r2 =
+cells_kept trees turns w x l l2 inv inv2 r h (Enters _ w1 a b t k used depth self op kind loc m y z takes call does enters) made r2 =
     let q = out_packet turns w inv.config a b (Request t k used depth self op) w1 inv.stands takes in
     served_at trees turns w x l l2 t self op kind loc y inv inv2 r r2 (ap (λ (es : List Entry). es ++ entry_of t 0 (Some (act kind loc)) ∷ []) q.journal) h (call_may op call) does
-kept trees turns w x l l2 inv inv2 r h (Holds _ w1 a b t k used depth self op takes) made r2 =
+cells_kept trees turns w x l l2 inv inv2 r h (Holds _ w1 a b t k used depth self op takes) made r2 =
     let q = out_packet turns w inv.config a b (Request t k used depth self op) w1 inv.stands takes in
     silent_at trees turns w x l l2 r r2 q.journal q.memory h
-kept trees turns w x l l2 inv inv2 r h (Returns _ s t slot call o is answers out) made r2 = silent_at trees turns w x l l2 r r2 refl refl h
-kept trees turns w x l l2 inv inv2 r h (Resumes _ w1 a b t k used o e op hs takes here needs) made r2 =
+cells_kept trees turns w x l l2 inv inv2 r h (Returns _ s t slot call o is answers out) made r2 = silent_at trees turns w x l l2 r r2 refl refl h
+cells_kept trees turns w x l l2 inv inv2 r h (Resumes _ w1 a b t k used o e op hs takes here needs) made r2 =
     let q = out_packet turns w inv.config a b (Reply t k used o) w1 inv.stands takes in
     silent_at trees turns w x l l2 r r2 q.journal q.memory h
-
-pub cell_sites_kept : CellSitesKept
-cell_sites_kept trees turns w x l l2 inv r h e made r2 = kept trees turns w x l l2 inv (step_keeps trees turns w x inv e) r h e made r2
 
 -- ---- from the start
 
 -- the fold is there where the replay is
-located_there : (trees : List BlockTree) (turns : ℕ) (es : List Entry) (c : Config) → replay trees turns es ≡ Some c → (l : Located) × (located_run trees turns es ≡ Some l)
+pub located_there : (trees : List BlockTree) (turns : ℕ) (es : List Entry) (c : Config) → replay trees turns es ≡ Some c → (l : Located) × (located_run trees turns es ≡ Some l)
 located_there trees turns es c e = by (located_run trees turns es) refl
   where
     by : (o : Option Located) → located_run trees turns es ≡ o → (l : Located) × (located_run trees turns es ≡ Some l)
@@ -231,11 +240,11 @@ first_there k zero i l = absurd (omega arith)
 first_there k (suc n) zero l = ap Some (omega arith)
 first_there k (suc n) (suc i) l = first_there (suc k) n i (omega arith) ∙ ap Some (omega arith)
 
-windows_length : (k : ℕ) (bs : List BlockTree) → length (windows k bs) ≡ length bs
+pub windows_length : (k : ℕ) (bs : List BlockTree) → length (windows k bs) ≡ length bs
 windows_length k [] = refl
 windows_length k (b ∷ bs) = ap suc (windows_length (suc k) bs)
 
-at_first : (trees : List BlockTree) → AreAt (world_at (windows 0 trees)).memory (located_opening trees).cell_sites
+pub at_first : (trees : List BlockTree) → AreAt (world_at (windows 0 trees)).memory (located_opening trees).cell_sites
 at_first trees r x e =
     let f = first (length (windows 0 trees)) r x e in
     ap (λ (b : Born). slice_get (first_sites 0 (length trees)) b.born) f.cell
@@ -244,10 +253,3 @@ at_first trees r x e =
   where
     from_zero : (n : ℕ) → 0 + n ≡ n
     from_zero n = omega arith
-
-pub every_run_at_sites : EveryRunAtSites
-every_run_at_sites trees turns w l Begin made r = let same : located_opening trees ≡ l = cc r in subst (λ (z : Located). AreAt (world_at (windows 0 trees)).memory z.cell_sites) same (at_first trees)
-every_run_at_sites trees turns w l (Then {v = v} run e) made r =
-    let inv = every_run_stands trees turns v run in
-    let there = located_there trees turns v.journal inv.config inv.replays in
-    cell_sites_kept trees turns v w there.0 l inv there.1 (every_run_at_sites trees turns v there.0 run made.0 there.1) e (made.1 there.0 there.1) r

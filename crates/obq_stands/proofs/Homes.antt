@@ -6,13 +6,14 @@ use Rattle.obq_model.specs.Step.{plug}
 use Rattle.obq_model.specs.Config.{Config}
 use Rattle.obq_stands.specs.World.{with_at, at2, Ref, Slot, Suspended, Request, Reply, Ending, World}
 use Rattle.obq_stands.specs.Stands.{Stands, Table}
-use Rattle.obq_stands.specs.Events.{with_window, moved, calling, answering, first_slot, Steps, Acted, Forks, Finishes, Asks, Serves, Enters, Holds, Returns, Resumes}
-use Rattle.obq_stands.specs.Over.{JoinWaits, AtHome, HomesKept, HomesBegin, JoinAtHome}
+use Rattle.obq_stands.specs.Events.{with_window, moved, calling, answering, first_slot, Steps, Acted, Forks, Finishes, Asks, Serves, Enters, Holds, Returns, Resumes, Begin, Then, windows}
+use Rattle.obq_stands.specs.Over.{JoinWaits, AtHome, homes_of, HomesKept, EveryRunAtHome, HomesBegin, JoinAtHome}
 use Rattle.obq_stands.proofs.Update.{test_same, with_at_same, with_at_other, at2_cases}
 use Rattle.obq_model.proofs.Options.{not_both, some_none}
 use Rattle.obq_model.proofs.Slices.{get_below}
 use Rattle.obq_stands.proofs.Moves.{out_running, out_packet, endings}
 use Rattle.obq_stands.proofs.Abroad.{resumed_by}
+use Rattle.obq_stands.proofs.Opening.{every_run_stands}
 
 some_one : {X : Type 0} (z : Option X) (a b : X) → z ≡ Some a → z ≡ Some b → a ≡ b
 some_one z a b e f = cc (e, f)
@@ -61,15 +62,14 @@ same_home w w1 home r p en n h =
 
 pub homes_kept : HomesKept
 homes_kept trees turns w x home inv h (Steps _ s t n slot u is few e) =
-    (home, record { runs = ran w.running home s t (moved slot n u) h.runs (h.runs s t slot is); pends = h.pends; known = h.known; ends = h.ends }, λ v l. refl)
+    (record { runs = ran w.running home s t (moved slot n u) h.runs (h.runs s t slot is); pends = h.pends; known = h.known; ends = h.ends }, λ v l. refl)
 homes_kept trees turns w x home inv h (Acted _ s t n slot u op hs kind loc m y is few e needs does) =
-    (home, record { runs = ran w.running home s t (moved slot (n + 1) (plug hs y)) h.runs (h.runs s t slot is); pends = h.pends; known = h.known; ends = h.ends }, λ v l. refl)
+    (record { runs = ran w.running home s t (moved slot (n + 1) (plug hs y)) h.runs (h.runs s t slot is); pends = h.pends; known = h.known; ends = h.ends }, λ v l. refl)
 homes_kept trees turns w x home inv h (Forks _ s t n slot u v hs is few e needs room) =
     let home2 : ℕ → ℕ = with_at home w.threads s in
     let old : (z : ℕ) → z < w.threads → home2 z ≡ home z = λ z l. with_at_other home w.threads s z (below_other z w.threads l) in
     let runs2 : (a z : ℕ) (k : Slot) → w.running a z ≡ Some k → k.segment.answers ≡ None → a ≡ home2 z = λ a z k i none. h.runs a z k i none ∙ sym (old z (running_below turns w inv.config a z k inv.stands i)) in
     let first : Slot = moved slot (n + 1) (plug hs (Const (Thread w.threads))) in (
-      home2,
       record {
         runs = ran (at2 w.running s t (Some first)) home2 s w.threads (calling v) (ran w.running home2 s t first runs2 (runs2 s t slot is)) (λ none. sym (with_at_same home w.threads s));
         pends = λ a k z i none. h.pends a k z i none ∙ sym (old z.thread (h.known a k z i));
@@ -79,14 +79,13 @@ homes_kept trees turns w x home inv h (Forks _ s t n slot u v hs is few e needs 
       old,
     )
 homes_kept trees turns w x home inv h (Finishes _ s t n slot u e is none few steps ends) =
-    (home, record { runs = stopped w.running home s t h.runs; pends = h.pends; known = h.known; ends = λ a z k i. by (h.runs s t slot is none) a z k i (at2_cases w.ended s t (Some e) a z) }, λ v l. refl)
+    (record { runs = stopped w.running home s t h.runs; pends = h.pends; known = h.known; ends = λ a z k i. by (h.runs s t slot is none) a z k i (at2_cases w.ended s t (Some e) a z) }, λ v l. refl)
   where
     by : s ≡ home t → (a z : ℕ) (k : Ending) → at2 w.ended s t (Some e) a z ≡ Some k → (((a ≡ s) × (z ≡ t) × (at2 w.ended s t (Some e) a z ≡ Some e)) ⊎ ((a ≡ s → z ≡ t → ⊥) × (at2 w.ended s t (Some e) a z ≡ w.ended a z))) → a ≡ home z
     by own a z k i (inl q) = q.0 ∙ own ∙ ap home (sym q.1)
     by own a z k i (inr q) = h.ends a z k (sym q.1 ∙ i)
 homes_kept trees turns w x home inv h (Asks _ s t to k slot op hs is few needs free) =
     let there : t < w.threads = running_below turns w inv.config s t slot inv.stands is in (
-      home,
       record {
         runs = stopped w.running home s t h.runs;
         pends = λ a j z i none. by_home (h.runs s t slot is) a j z i none (at2_cases w.pending s k (Some (record { thread = t; segment = slot.segment })) a j);
@@ -112,23 +111,22 @@ homes_kept trees turns w x home inv h (Asks _ s t to k slot op hs is few needs f
 homes_kept trees turns w x home inv h (Serves _ w1 a b t k used depth self op kind loc m y o takes may does gives) =
     let q = out_packet turns w inv.config a b (Request t k used depth self op) w1 inv.stands takes in
     let g = same_home w w1 home q.running q.pending q.ended q.threads h in
-    (home, record { runs = g.runs; pends = g.pends; known = g.known; ends = g.ends }, λ v l. refl)
+    (record { runs = g.runs; pends = g.pends; known = g.known; ends = g.ends }, λ v l. refl)
 homes_kept trees turns w x home inv h (Enters _ w1 a b t k used depth self op kind loc m y z takes call does enters) =
     let q = out_packet turns w inv.config a b (Request t k used depth self op) w1 inv.stands takes in
     let g = same_home w w1 home q.running q.pending q.ended q.threads h in
-    (home, record { runs = ran w1.running home b t (answering a k used depth self z) g.runs (λ none. absurd (some_none (record { site = a; number = k }) none)); pends = g.pends; known = g.known; ends = g.ends }, λ v l. refl)
+    (record { runs = ran w1.running home b t (answering a k used depth self z) g.runs (λ none. absurd (some_none (record { site = a; number = k }) none)); pends = g.pends; known = g.known; ends = g.ends }, λ v l. refl)
 homes_kept trees turns w x home inv h (Holds _ w1 a b t k used depth self op takes) =
     let q = out_packet turns w inv.config a b (Request t k used depth self op) w1 inv.stands takes in
     let g = same_home w w1 home q.running q.pending q.ended q.threads h in
-    (home, record { runs = g.runs; pends = g.pends; known = g.known; ends = g.ends }, λ v l. refl)
+    (record { runs = g.runs; pends = g.pends; known = g.known; ends = g.ends }, λ v l. refl)
 homes_kept trees turns w x home inv h (Returns _ s t slot call o is answers out) =
-    (home, record { runs = stopped w.running home s t h.runs; pends = h.pends; known = h.known; ends = h.ends }, λ v l. refl)
+    (record { runs = stopped w.running home s t h.runs; pends = h.pends; known = h.known; ends = h.ends }, λ v l. refl)
 homes_kept trees turns w x home inv h (Resumes _ w1 a b t k used o e op hs takes here needs) =
     let q = out_packet turns w inv.config a b (Reply t k used o) w1 inv.stands takes in
     let g = same_home w w1 home q.running q.pending q.ended q.threads h in
     let here1 : w1.pending b k ≡ Some e = ap (λ (p : Table). p b k) q.pending ∙ here in
     let r = resumed_by w1.memory.heap w1.pending t b k q.carries.1.term e op hs o here1 needs q.carries.1.reads in (
-      home,
       record {
         runs = ran w1.running home b t (record { segment = with_window e.segment _; used = used }) g.runs (λ none. g.pends b k e here1 none ∙ ap home r.of);
         pends = λ c j z i none. g.pends c j z (old c j z i) none;
@@ -157,6 +155,10 @@ homes_begin windows =
     by : (s t : ℕ) (slot : Slot) (o : Option (Term Ref)) (b : Bool) → eqb s t ≡ b → (if b then option_map first_slot o else None) ≡ Some slot → s ≡ t
     by s t slot o true e f = test_same s t e
     by s t slot o false e f = absurd (cc f)
+
+pub every_run_at_home : EveryRunAtHome
+every_run_at_home trees turns w Begin = homes_begin (windows 0 trees)
+every_run_at_home trees turns w (Then {v = v} r e) = (homes_kept trees turns v w (homes_of r) (every_run_stands trees turns v r) (every_run_at_home trees turns v r) e).0
 
 pub join_at_home : JoinAtHome
 join_at_home w home t u s h none = JoinWaits u (λ b. by b (w.ended b u) refl)

@@ -46,3 +46,8 @@ pub mod BareFrames
 pub mod SegmentTrails
 pub mod TrailsKept
 pub mod TrailEvents
+pub mod EntryTrails
+pub mod DoneSites
+pub mod SitedTrails
+pub mod RequestTrails
+pub mod HomeTrails

@@ -1,13 +1,11 @@
 -- The trail of a thread in the located fold behind pure steps and an act of a segment: a site for each activation of its window, and what lies around.
-use Rattle.std.specs.Prelude.{Bool, List, Option, Some, None, [], ◌∷◌, ◌++◌, ℕ, suc, zero, true, false, drop, if◌then◌else◌, length, nat_lt, refl, replicate, slice_get, slice_index_or, ◌+◌, ◌<◌, ◌≡◌, ◌≤◌, ◌⊎◌}
+use Rattle.std.specs.Prelude.{Bool, List, Option, Some, None, [], ◌∷◌, ◌++◌, ℕ, suc, zero, drop, refl, replicate, slice_get, slice_index_or, ◌+◌, ◌≡◌, ◌⊎◌}
 use Rattle.std.proofs.Common.{inl, inr, ap, sym, ◌∙◌, subst, arith}
-use Rattle.std.proofs.lemmas.Bool.Decides.{nat_tests}
-use Rattle.obq_base.specs.declared.limits.TheConstants.{CALL_LIMIT}
-use Rattle.obq_model.specs.Terms.{Raising, Called, Within, Term, Const, Form, Parts, End, Part}
+use Rattle.obq_model.specs.Terms.{Raising, Called, Within, Term, Const, Form, End, Part}
 use Rattle.obq_model.specs.Store.{same_loc}
 use Rattle.obq_model.specs.Step.{Self, no_self, Operation, Frame, plug, Found, Next, Needs, Done, Uncaught, find, next_of}
 use Rattle.obq_model.specs.Forms.{IsFormed}
-use Rattle.obq_model.specs.Config.{Running, ThreadState, Config}
+use Rattle.obq_model.specs.Config.{Running, Config}
 use Rattle.obq_model.specs.Frames.{IsActivation}
 use Rattle.obq_model.specs.Located.{Located, activations_of, site_here, Trail, entered_at, left_from, turned}
 use Rattle.obq_model.specs.Located as located

@@ -1,5 +1,5 @@
 -- Events without an act keep that each trail of the located fold is that of its thread's chain.
-use Rattle.std.specs.Prelude.{List, Option, Some, None, [], ◌∷◌, ◌++◌, ℕ, suc, length, refl, replicate, slice_get, ◌+◌, ◌<◌, ◌≡◌, ◌⊎◌, slice_set, slice_index_or}
+use Rattle.std.specs.Prelude.{List, Option, Some, None, [], ◌∷◌, ◌++◌, ℕ, suc, length, refl, replicate, slice_get, ◌+◌, ◌≡◌, ◌⊎◌, slice_set, slice_index_or}
 use Rattle.std.proofs.Common.{inl, inr, ap, sym, ◌∙◌, subst, arith}
 use Rattle.std.proofs.lemmas.Option.{get_or_from_slice_get}
 use Rattle.obq_base.specs.declared.acts.Entry.{Entry}
@@ -8,8 +8,7 @@ use Rattle.obq_laws.specs.Determinism.{entry_of}
 use Rattle.obq_model.proofs.Slices.{get_below, set_same, set_other}
 use Rattle.obq_stands.proofs.SegmentTrails.{segment_run}
 use Rattle.obq_base.specs.Tree.{BlockTree}
-use Rattle.obq_model.specs.Terms.{Term, Const}
-use Rattle.obq_model.specs.Exceptions.{raising}
+use Rattle.obq_model.specs.Terms.{Term}
 use Rattle.obq_model.specs.Store.{same_loc}
 use Rattle.obq_model.specs.Step.{Self, no_self, Operation, Leave, Frame, plug, Needs, find, self_at, activations_at}
 use Rattle.obq_model.specs.Config.{Running, ThreadState, Config, Execution}
@@ -22,12 +21,12 @@ use Rattle.obq_laws.specs.Activations.{Activated, left_by}
 use Rattle.obq_laws.proofs.Activated.{found_activations}
 use Rattle.obq_laws.proofs.Formed.{GoodThreadState, good_state}
 use Rattle.obq_stands.specs.World.{at2, Ref, same_ref, PendingCall, Segment, Slot, Suspended, Outcome, Answer, RaisedUp, HopTo, Taken, answer_term, wire, MayAsk, Packet, Request, Reply, thread_of, Parked, Ending, World, without, pend, start, note}
-use Rattle.obq_stands.specs.Stands.{Link, Table, Fresh, Chained, around, At, InLine, WaitsAt, IsIn, StandsFor, after_steps}
+use Rattle.obq_stands.specs.Stands.{Link, Table, Fresh, Chained, around, At, InLine, IsIn, StandsFor, after_steps}
 use Rattle.obq_stands.specs.Events.{with_window, Takes, OffLine, OffHold, IsOut, Step, Steps, Acted, Forks, Finishes, Asks, Serves, Enters, Holds, Returns, Resumes, moved, Run, windows, world_at}
 use Rattle.obq_stands.specs.Pending.{call_in}
 use Rattle.obq_stands.specs.Around.{ArePendingBare}
-use Rattle.obq_stands.specs.AtSites.{sites_around, IsTrailOf, TrailIs, AreTrails, IsSilent, HasNoAct, PlainTrailsKept}
-use Rattle.obq_stands.proofs.BareFrames.{running_activations, formed_of, bare_kept, every_run_bare}
+use Rattle.obq_stands.specs.AtSites.{sites_around, IsTrailOf, TrailIs, AreTrails, IsSilent}
+use Rattle.obq_stands.proofs.BareFrames.{running_activations, formed_of}
 use Rattle.obq_stands.proofs.CellsThere.{config_of, onward}
 use Rattle.obq_stands.proofs.Chains.{chained_at2, chained_base, free_is_fresh, bottom}
 use Rattle.obq_stands.proofs.Events.{found_op}
@@ -35,20 +34,23 @@ use Rattle.obq_stands.proofs.Memory.{reading, reading_agrees}
 use Rattle.obq_stands.proofs.Moves.{out_running, out_packet}
 use Rattle.obq_stands.proofs.Abroad.{resumed_by}
 use Rattle.obq_stands.proofs.PendingCalls.{OthersStay, all_stay, stay_then, stay_started, stay_without, stay_parked, in_last, stay_posted, stay_taken, fits_in}
-use Rattle.obq_stands.proofs.TrailsKept.{chained_into, around_from, run_long, sites_long, PendingInto, trails_fit, fit_get, trails_by}
+use Rattle.obq_stands.proofs.TrailsKept.{chained_into, around_from, run_long, sites_long, PendingInto, EndingsStay, trails_fit, fit_get, trails_by}
 use Rattle.obq_stands.proofs.Turns.{state_of}
 use Rattle.obq_stands.proofs.Update.{same_or, at2_same, at2_other, at2_cases}
 
 -- ---- chains from one call
 
 -- the first link of a chain, where this segment is suspended
-first_link : (p : Table) (t : ℕ) (l m : Link) → l.key ≡ m.key → p l.key.site l.key.number ≡ Some (record { thread = t; segment = l.segment }) → p m.key.site m.key.number ≡ Some (record { thread = t; segment = m.segment }) → l.segment ≡ m.segment
+pub first_link : (p : Table) (t : ℕ) (l m : Link) → l.key ≡ m.key → p l.key.site l.key.number ≡ Some (record { thread = t; segment = l.segment }) → p m.key.site m.key.number ≡ Some (record { thread = t; segment = m.segment }) → l.segment ≡ m.segment
 first_link p t l m e f g = let h : p m.key.site m.key.number ≡ Some (record { thread = t; segment = l.segment }) = ap (λ (k : PendingCall). p k.site k.number) (sym e) ∙ f in
     let one : record { thread = t; segment = l.segment } ≡ record { thread = t; segment = m.segment } = cc (h, g) in
     ap (λ (z : Suspended). z.segment) one
 
 same_frames : (l : Segment) (m : Segment) (op op2 : Operation Ref) (hs gs : List (Frame Ref)) → l ≡ m → find same_ref l.depth l.self l.window ≡ Needs op hs → find same_ref m.depth m.self m.window ≡ Needs op2 gs → hs ≡ gs
 same_frames l m op op2 hs gs e f g = let h : find same_ref m.depth m.self m.window ≡ Needs op hs = subst (λ (z : Segment). find same_ref z.depth z.self z.window ≡ Needs op hs) e f in cc (h, g)
+
+pub same_ops : (l : Segment) (m : Segment) (op op2 : Operation Ref) (hs gs : List (Frame Ref)) → l ≡ m → find same_ref l.depth l.self l.window ≡ Needs op hs → find same_ref m.depth m.self m.window ≡ Needs op2 gs → op ≡ op2
+same_ops l m op op2 hs gs e f g = let h : find same_ref m.depth m.self m.window ≡ Needs op hs = subst (λ (z : Segment). find same_ref z.depth z.self z.window ≡ Needs op hs) e f in cc (h, g)
 
 -- chains from one call have as many activations around
 pub same_start : (p : Table) (t d d2 : ℕ) (self self2 : Self Ref) (a : Option PendingCall) (ls ms : List Link) → Chained p t d self a ls → Chained p t d2 self2 a ms → (d ≡ d2) × (self ≡ self2)
@@ -75,7 +77,7 @@ trail_there trees turns w inv l t s r here =
 pub running_here : (trees : List BlockTree) (turns : ℕ) (w : World) (inv : StandsFor trees turns w) (s t : ℕ) (slot : Slot) → w.running s t ≡ Some slot → (u : Term ℕ) × (slice_get inv.config.threads t ≡ Some (state_of (Running u) slot.used))
 running_here trees turns w inv s t slot is = let goes = (out_running turns w inv.config s t slot inv.stands is).1 in (goes.term, goes.here)
 
-some_same : {X : Type 0} (o : Option X) (a b : X) → o ≡ Some a → o ≡ Some b → a ≡ b
+pub some_same : {X : Type 0} (o : Option X) (a b : X) → o ≡ Some a → o ≡ Some b → a ≡ b
 some_same o a b e f = cc (e, f)
 
 -- a trail that is a run of the segment's site before its chain has a site for each activation of the window
@@ -194,22 +196,25 @@ pub taken_trail : (trees : List BlockTree) (turns : ℕ) (w : World) (inv : Stan
 taken_trail trees turns w inv a b p _ tr (OffLine ps is) h = subst (λ y. TrailIs w.pending (thread_of p) y tr) (fits_in inv.stands.place a b (w.lines a b) p (inv.stands.placed.fits a b) (subst (IsIn p) (sym is) (inl refl))) h
 taken_trail trees turns w inv a b p _ tr (OffHold is) h = subst (λ y. TrailIs w.pending (thread_of p) y tr) (inv.stands.placed.waits b (thread_of p) (record { from = a; packet = p }) is) h
 
-posted_place : (trees : List BlockTree) (turns : ℕ) (x : World) (inv2 : StandsFor trees turns x) (a b : ℕ) (ps : List Packet) (p : Packet) → x.lines a b ≡ ps ++ p ∷ [] → inv2.stands.place (thread_of p) ≡ InLine a b p
+pub posted_place : (trees : List BlockTree) (turns : ℕ) (x : World) (inv2 : StandsFor trees turns x) (a b : ℕ) (ps : List Packet) (p : Packet) → x.lines a b ≡ ps ++ p ∷ [] → inv2.stands.place (thread_of p) ≡ InLine a b p
 posted_place trees turns x inv2 a b ps p e = fits_in inv2.stands.place a b (x.lines a b) p (inv2.stands.placed.fits a b) (subst (IsIn p) (sym e) (in_last p ps))
 
 -- ---- events
 
+pub same_endings : (w x : World) → x.ended ≡ w.ended → EndingsStay w x
+same_endings w x e = λ s v y is. ap (λ (f : ℕ → ℕ → Option Ending). f s v) e ∙ is
+
 -- a trail of the event's thread, and of another
-all_trails : (trees : List BlockTree) (turns : ℕ) (w x : World) (inv : StandsFor trees turns w) (inv2 : StandsFor trees turns x) (t : ℕ) (l l2 : Located) → located_run trees turns w.journal ≡ Some l → AreTrails trees turns w inv l → OthersStay w x t → x.ended ≡ w.ended
+pub all_trails : (trees : List BlockTree) (turns : ℕ) (w x : World) (inv : StandsFor trees turns w) (inv2 : StandsFor trees turns x) (t : ℕ) (l l2 : Located) → located_run trees turns w.journal ≡ Some l → AreTrails trees turns w inv l → OthersStay w x t → EndingsStay w x
     → ((u : ℕ) → (u ≡ t → ⊥) → slice_get l2.thread_sites u ≡ slice_get l.thread_sites u) → ((u : ℕ) → (u ≡ t → ⊥) → PendingInto x.pending w.pending u) → ((tr : List ℕ) → slice_get l2.thread_sites t ≡ Some tr → TrailIs x.pending t (inv2.stands.place t) tr)
     → AreTrails trees turns x inv2 l2
 all_trails trees turns w x inv inv2 t l l2 r h o ends same into own u tr here = by (same_or u t)
   where
     by : (u ≡ t) ⊎ (u ≡ t → ⊥) → TrailIs x.pending u (inv2.stands.place u) tr
     by (inl e) = subst (λ n. TrailIs x.pending n (inv2.stands.place n) tr) (sym e) (own tr (ap (slice_get l2.thread_sites) (sym e) ∙ here))
-    by (inr ne) = trails_by trees turns w x inv inv2 t l l2 r h o (λ s v y is. ap (λ (f : ℕ → ℕ → Option Ending). f s v) ends ∙ is) into u tr ne (same u ne) here
+    by (inr ne) = trails_by trees turns w x inv inv2 t l l2 r h o ends into u tr ne (same u ne) here
 
-same_into : (p p2 : Table) (t : ℕ) → p ≡ p2 → PendingInto p p2 t
+pub same_into : (p p2 : Table) (t : ℕ) → p ≡ p2 → PendingInto p p2 t
 same_into p p2 t e s k y is mine = ap (λ (f : Table). f s k) (sym e) ∙ is
 
 more_into : (p : Table) (s k t u : ℕ) (seg : Segment) → (u ≡ t → ⊥) → PendingInto (at2 p s k (Some (record { thread = t; segment = seg }))) p u
@@ -222,37 +227,38 @@ more_into p s k t u seg ne a j e is mine = by (at2_cases p s k (Some new) a j)
     by (inl q) = let same : new ≡ e = some_same (at2 p s k (Some new) a j) new e q.2 is in absurd (ne (sym mine ∙ sym (ap (λ (z : Suspended). z.thread) same)))
     by (inr q) = sym q.1 ∙ is
 
-kept : (trees : List BlockTree) (turns : ℕ) (w x : World) (inv : StandsFor trees turns w) (inv2 : StandsFor trees turns x) (l : Located) → ArePendingBare w → ArePendingBare x → located_run trees turns w.journal ≡ Some l → AreTrails trees turns w inv l
+-- an event without an entry
+pub silent_trails : (trees : List BlockTree) (turns : ℕ) (w x : World) (inv : StandsFor trees turns w) (inv2 : StandsFor trees turns x) (l : Located) → ArePendingBare w → ArePendingBare x → located_run trees turns w.journal ≡ Some l → AreTrails trees turns w inv l
     → (e : Step turns w x) → IsSilent e → AreTrails trees turns x inv2 l
-kept trees turns w x inv inv2 l bare bare2 r h (Steps _ s t n slot u is few e) silent = absurd silent
-kept trees turns w x inv inv2 l bare bare2 r h (Acted _ s t n slot u op hs kind loc m y is few e needs does) silent = absurd silent
-kept trees turns w x inv inv2 l bare bare2 r h (Forks _ s t n slot u v hs is few e needs room) silent = absurd silent
-kept trees turns w x inv inv2 l bare bare2 r h (Finishes _ s t n slot u e is none few steps ends) silent = absurd silent
-kept trees turns w x inv inv2 l bare bare2 r h (Asks _ s t to k slot op hs is few needs free) may =
+silent_trails trees turns w x inv inv2 l bare bare2 r h (Steps _ s t n slot u is few e) silent = absurd silent
+silent_trails trees turns w x inv inv2 l bare bare2 r h (Acted _ s t n slot u op hs kind loc m y is few e needs does) silent = absurd silent
+silent_trails trees turns w x inv inv2 l bare bare2 r h (Forks _ s t n slot u v hs is few e needs room) silent = absurd silent
+silent_trails trees turns w x inv inv2 l bare bare2 r h (Finishes _ s t n slot u e is none few steps ends) silent = absurd silent
+silent_trails trees turns w x inv inv2 l bare bare2 r h (Asks _ s t to k slot op hs is few needs free) may =
     let p : Packet = Request t k slot.used (activations_at slot.segment.depth hs) (self_at slot.segment.self hs) (wire op) in
     let w1 : World = without w s t in
     let w2 : World = pend w1 s k (Some (record { thread = t; segment = slot.segment })) in
     let stay : OthersStay w x t = stay_then w w1 x t (stay_without w s t) (stay_then w1 w2 x t (all_stay w1 w2 t refl refl refl) (stay_posted w2 s to p t)) in
-    all_trails trees turns w x inv inv2 t l l r h stay refl (λ u ne. refl) (λ u ne. more_into w.pending s k t u slot.segment ne)
+    all_trails trees turns w x inv inv2 t l l r h stay (same_endings w x refl) (λ u ne. refl) (λ u ne. more_into w.pending s k t u slot.segment ne)
     (λ tr here. subst (λ y. TrailIs x.pending t y tr) (sym (posted_place trees turns x inv2 s to (w.lines s to) p (at2_same w.lines s to (w.lines s to ++ p ∷ []))))
     (asks_trail trees turns w inv s t k slot op hs tr bare is may needs (subst (λ y. TrailIs w.pending t y tr) (inv.stands.placed.runs s t slot is) (h t tr here))))
-kept trees turns w x inv inv2 l bare bare2 r h (Serves _ w1 a b t k used depth self op kind loc m y o takes may does gives) silent = absurd silent
-kept trees turns w x inv inv2 l bare bare2 r h (Enters _ w1 a b t k used depth self op kind loc m y z takes call does enters) silent = absurd silent
-kept trees turns w x inv inv2 l bare bare2 r h (Holds _ w1 a b t k used depth self op takes) silent =
+silent_trails trees turns w x inv inv2 l bare bare2 r h (Serves _ w1 a b t k used depth self op kind loc m y o takes may does gives) silent = absurd silent
+silent_trails trees turns w x inv inv2 l bare bare2 r h (Enters _ w1 a b t k used depth self op kind loc m y z takes call does enters) silent = absurd silent
+silent_trails trees turns w x inv inv2 l bare bare2 r h (Holds _ w1 a b t k used depth self op takes) silent =
     let p : Packet = Request t k used depth self op in
     let y : Parked = record { from = a; packet = p } in
     let q = out_packet turns w inv.config a b p w1 inv.stands takes in
     let stay : OthersStay w x t = stay_then w w1 x t (stay_taken w a b p w1 takes) (stay_parked w1 b t (Some y)) in
-    all_trails trees turns w x inv inv2 t l l r h stay q.ended (λ u ne. refl) (λ u ne. same_into x.pending w.pending u q.pending)
+    all_trails trees turns w x inv inv2 t l l r h stay (same_endings w x q.ended) (λ u ne. refl) (λ u ne. same_into x.pending w.pending u q.pending)
     (λ tr here. subst (λ z. TrailIs x.pending t z tr) (sym (inv2.stands.placed.waits b t y (at2_same w1.waiting b t (Some y))))
     (subst (λ (f : Table). IsTrailOf f t (record { site = a; number = k }) tr) (sym q.pending) (taken_trail trees turns w inv a b p w1 tr takes (h t tr here))))
-kept trees turns w x inv inv2 l bare bare2 r h (Returns _ s t slot call o is answers out) silent =
+silent_trails trees turns w x inv inv2 l bare bare2 r h (Returns _ s t slot call o is answers out) silent =
     let p : Packet = Reply t call.number slot.used o in
     let w1 : World = without w s t in
-    all_trails trees turns w x inv inv2 t l l r h (stay_then w w1 x t (stay_without w s t) (stay_posted w1 s call.site p t)) refl (λ u ne. refl) (λ u ne. same_into w.pending w.pending u refl)
+    all_trails trees turns w x inv inv2 t l l r h (stay_then w w1 x t (stay_without w s t) (stay_posted w1 s call.site p t)) (same_endings w x refl) (λ u ne. refl) (λ u ne. same_into w.pending w.pending u refl)
     (λ tr here. subst (λ y. TrailIs w.pending t y tr) (sym (posted_place trees turns x inv2 s call.site (w.lines s call.site) p (at2_same w.lines s call.site (w.lines s call.site ++ p ∷ []))))
     (returns_trail w.pending s t slot call o tr answers out (subst (λ y. TrailIs w.pending t y tr) (inv.stands.placed.runs s t slot is) (h t tr here))))
-kept trees turns w x inv inv2 l bare bare2 r h (Resumes _ w1 a b t k used o e op hs takes here needs) silent =
+silent_trails trees turns w x inv inv2 l bare bare2 r h (Resumes _ w1 a b t k used o e op hs takes here needs) silent =
     let p : Packet = Reply t k used o in
     let q = out_packet turns w inv.config a b p w1 inv.stands takes in
     let slot : Slot = record { segment = with_window e.segment (plug hs (answer_term op o)); used = used } in
@@ -262,12 +268,12 @@ kept trees turns w x inv inv2 l bare bare2 r h (Resumes _ w1 a b t k used o e op
     let less : x.pending ≡ at2 w.pending b k None = ap (λ (f : Table). at2 f b k None) q.pending in
     let stay : OthersStay w x t = stay_then w w1 x t (stay_taken w a b p w1 takes) (stay_then w1 w2 x t (all_stay w1 w2 t refl refl refl) (stay_started w2 b t slot)) in
     let r2 : located_run trees turns x.journal ≡ Some l = ap (located_run trees turns) q.journal ∙ r in
-    all_trails trees turns w x inv inv2 t l l r h stay q.ended (λ u ne. refl) (λ u ne. subst (λ (f : Table). PendingInto f w.pending u) (sym less) (gone_into w.pending b k u))
+    all_trails trees turns w x inv inv2 t l l r h stay (same_endings w x q.ended) (λ u ne. refl) (λ u ne. subst (λ (f : Table). PendingInto f w.pending u) (sym less) (gone_into w.pending b k u))
     (λ tr at. subst (λ y. TrailIs x.pending t y tr) (sym (inv2.stands.placed.runs b t slot (at2_same w1.running b t (Some slot))))
     (resumes_trail trees turns w x inv2 l b t k slot e op hs tr bare2 r2 (at2_same w1.running b t (Some slot)) refl refl refl here of needs less at (taken_trail trees turns w inv a b p w1 tr takes (h t tr at))))
 
 -- pure steps of a segment
-steps_trails : (trees : List BlockTree) (turns : ℕ) (w x : World) (inv : StandsFor trees turns w) (inv2 : StandsFor trees turns x) (l l2 : Located) (s t n : ℕ) (slot : Slot) (u : Term Ref) → Run turns (world_at (windows 0 trees)) w → located_run trees turns w.journal ≡ Some l
+pub steps_trails : (trees : List BlockTree) (turns : ℕ) (w x : World) (inv : StandsFor trees turns w) (inv2 : StandsFor trees turns x) (l l2 : Located) (s t n : ℕ) (slot : Slot) (u : Term Ref) → Run turns (world_at (windows 0 trees)) w → located_run trees turns w.journal ≡ Some l
     → located_run trees turns x.journal ≡ Some l2 → AreTrails trees turns w inv l → x ≡ note (start w s t (moved slot n u)) (entry_of t n None) → w.running s t ≡ Some slot → after_steps slot.segment.depth slot.segment.self n slot.segment.window ≡ Some u → AreTrails trees turns x inv2 l2
 steps_trails trees turns w x inv inv2 l l2 s t n slot u run r r2 h eq is e =
     let e0 : Entry = entry_of t n None in
@@ -280,7 +286,7 @@ steps_trails trees turns w x inv inv2 l l2 s t n slot u run r r2 h eq is e =
     let w1 : World = start w s t slot2 in
     let runs : x.running s t ≡ Some slot2 = ap (λ (z : World). z.running s t) eq ∙ at2_same w.running s t (Some slot2) in
     let stay : OthersStay w x t = stay_then w w1 x t (stay_started w s t slot2) (all_stay w1 x t (ap (λ (z : World). z.running) eq) (ap (λ (z : World). z.waiting) eq) (ap (λ (z : World). z.lines) eq)) in
-    all_trails trees turns w x inv inv2 t l l2 r h stay (ap (λ (z : World). z.ended) eq) (λ v ne. ap (λ (xs : List (List ℕ)). slice_get xs v) sites ∙ set_other l.thread_sites t (behind at.0) v ne)
+    all_trails trees turns w x inv inv2 t l l2 r h stay (same_endings w x (ap (λ (z : World). z.ended) eq)) (λ v ne. ap (λ (xs : List (List ℕ)). slice_get xs v) sites ∙ set_other l.thread_sites t (behind at.0) v ne)
     (λ v ne. same_into x.pending w.pending v (ap (λ (z : World). z.pending) eq))
     (λ tr here. subst (λ y. TrailIs x.pending t y tr) (sym (inv2.stands.placed.runs s t slot2 runs)) (λ d self ls ch.
     let tr_is : tr ≡ behind at.0 = some_same (slice_get l2.thread_sites t) tr (behind at.0) here (ap (λ (xs : List (List ℕ)). slice_get xs t) sites ∙ set_same l.thread_sites t (behind at.0) (get_below l.thread_sites t there.0 there.1)) in
@@ -301,27 +307,5 @@ steps_trails trees turns w x inv inv2 l l2 s t n slot u run r r2 h eq is e =
     running_term : (v z : Term ℕ) (used : ℕ) → state_of (Running v) used ≡ state_of (Running z) used → v ≡ z
     running_term v z used q = ap (λ (y : ThreadState). term_of v y.execution) q
 
-located_same : (trees : List BlockTree) (turns : ℕ) (w x : World) (l l2 : Located) → located_run trees turns w.journal ≡ Some l → located_run trees turns x.journal ≡ Some l2 → x.journal ≡ w.journal → l ≡ l2
+pub located_same : (trees : List BlockTree) (turns : ℕ) (w x : World) (l l2 : Located) → located_run trees turns w.journal ≡ Some l → located_run trees turns x.journal ≡ Some l2 → x.journal ≡ w.journal → l ≡ l2
 located_same trees turns w x l l2 r r2 j = let q : located_run trees turns w.journal ≡ Some l2 = ap (located_run trees turns) (sym j) ∙ r2 in some_same (located_run trees turns w.journal) l l2 r q
-
-plain_kept : (trees : List BlockTree) (turns : ℕ) (w x : World) (inv : StandsFor trees turns w) (inv2 : StandsFor trees turns x) (l l2 : Located) → Run turns (world_at (windows 0 trees)) w → ((e : Step turns w x) → IsSilent e → AreTrails trees turns x inv2 l)
-    → located_run trees turns w.journal ≡ Some l → located_run trees turns x.journal ≡ Some l2 → AreTrails trees turns w inv l → (e : Step turns w x) → HasNoAct e → AreTrails trees turns x inv2 l2
-plain_kept trees turns w x inv inv2 l l2 run quiet r r2 h (Steps _ s t n slot u is few e) plain = steps_trails trees turns w x inv inv2 l l2 s t n slot u run r r2 h refl is e
-plain_kept trees turns w x inv inv2 l l2 run quiet r r2 h (Acted _ s t n slot u op hs kind loc m y is few e needs does) plain = absurd plain
-plain_kept trees turns w x inv inv2 l l2 run quiet r r2 h (Forks _ s t n slot u v hs is few e needs room) plain = absurd plain
-plain_kept trees turns w x inv inv2 l l2 run quiet r r2 h (Finishes _ s t n slot u e is none few steps ends) plain = absurd plain
-plain_kept trees turns w x inv inv2 l l2 run quiet r r2 h (Asks _ s t to k slot op hs is few needs free) plain =
-    subst (AreTrails trees turns x inv2) (located_same trees turns w x l l2 r r2 refl) (quiet (Asks w s t to k slot op hs is few needs free) plain)
-plain_kept trees turns w x inv inv2 l l2 run quiet r r2 h (Serves _ w1 a b t k used depth self op kind loc m y o takes may does gives) plain = absurd plain
-plain_kept trees turns w x inv inv2 l l2 run quiet r r2 h (Enters _ w1 a b t k used depth self op kind loc m y z takes call does enters) plain = absurd plain
-plain_kept trees turns w x inv inv2 l l2 run quiet r r2 h (Holds _ w1 a b t k used depth self op takes) plain =
-    subst (AreTrails trees turns x inv2) (located_same trees turns w x l l2 r r2 (out_packet turns w inv.config a b (Request t k used depth self op) w1 inv.stands takes).journal) (quiet (Holds w w1 a b t k used depth self op takes) tt)
-plain_kept trees turns w x inv inv2 l l2 run quiet r r2 h (Returns _ s t slot call o is answers out) plain =
-    subst (AreTrails trees turns x inv2) (located_same trees turns w x l l2 r r2 refl) (quiet (Returns w s t slot call o is answers out) tt)
-plain_kept trees turns w x inv inv2 l l2 run quiet r r2 h (Resumes _ w1 a b t k used o e op hs takes here needs) plain =
-    subst (AreTrails trees turns x inv2) (located_same trees turns w x l l2 r r2 (out_packet turns w inv.config a b (Reply t k used o) w1 inv.stands takes).journal) (quiet (Resumes w w1 a b t k used o e op hs takes here needs) tt)
-
-pub plain_trails_kept : PlainTrailsKept
-plain_trails_kept trees turns w x inv inv2 l l2 run r r2 h e plain =
-    let bare : ArePendingBare w = every_run_bare trees turns w run in
-    plain_kept trees turns w x inv inv2 l l2 run (λ y silent. kept trees turns w x inv inv2 l bare (bare_kept trees turns w x inv bare y) r h y silent) r r2 h e plain

@@ -1,25 +1,19 @@
 -- Every event at its sites keeps that each trail of the located fold is that of its thread's chain.
-use Rattle.std.specs.Prelude.{Bool, List, Option, Some, None, [], ◌∷◌, ◌++◌, ℕ, suc, zero, true, false, if◌then◌else◌, length, nat_lt, option_map, refl, replicate, slice_get, slice_index_or, slice_set, unwrap_or, ◌+◌, ◌<◌, ◌≡◌, ◌⊎◌}
-use Rattle.std.proofs.Common.{inl, inr, ap, sym, ◌∙◌, subst, arith}
-use Rattle.std.proofs.lemmas.Bool.Decides.{nat_tests}
-use Rattle.std.proofs.lemmas.Option.{get_or_from_slice_get}
-use Rattle.obq_base.specs.declared.acts.Act.{Act}
+use Rattle.std.specs.Prelude.{List, Option, Some, None, [], ◌∷◌, ◌++◌, ℕ, suc, zero, length, option_map, refl, replicate, slice_get, ◌+◌, ◌≡◌}
+use Rattle.std.proofs.Common.{ap, sym, ◌∙◌, subst, arith}
 use Rattle.obq_base.specs.declared.acts.Entry.{Entry}
 use Rattle.obq_base.specs.Tree.{BlockTree}
-use Rattle.obq_model.specs.Terms.{Term}
-use Rattle.obq_model.specs.Step.{Self, Operation, Frame, Pending, Needs, find, activations_in, activations_at}
-use Rattle.obq_model.specs.Config.{Execution, Running, Returned, Failed, ThreadState, Config, act}
+use Rattle.obq_model.specs.Step.{Self, Frame, Pending, activations_in, activations_at}
+use Rattle.obq_model.specs.Config.{ThreadState, Config}
 use Rattle.obq_model.specs.Located.{Located, execution_activations, with_waiting, located_run}
-use Rattle.obq_model.proofs.Slices.{get_below, set_same, set_other}
 use Rattle.obq_laws.specs.Trails.{TrailsFit}
 use Rattle.obq_laws.proofs.Sites.{sites_law}
-use Rattle.obq_stands.specs.World.{at2, Ref, same_ref, PendingCall, Slot, Suspended, Packet, thread_of, Parked, Ending, World}
-use Rattle.obq_stands.specs.Stands.{Link, Table, Fresh, Chained, Place, Nowhere, Absent, At, InLine, WaitsAt, EndedAt, IsIn, HasPlace, StandsAt, IsSomewhere, StandsFor}
+use Rattle.obq_stands.specs.World.{Ref, PendingCall, Suspended, Ending, World}
+use Rattle.obq_stands.specs.Stands.{Link, Table, Chained, Place, Nowhere, Absent, At, InLine, WaitsAt, EndedAt, HasPlace, StandsAt, IsSomewhere, StandsFor}
 use Rattle.obq_stands.specs.Pending.{call_in}
-use Rattle.obq_stands.specs.AtSites.{sites_around, IsTrailOf, TrailIs, AreTrails}
+use Rattle.obq_stands.specs.AtSites.{sites_around, TrailIs, AreTrails}
 use Rattle.obq_stands.proofs.BareFrames.{with_form}
 use Rattle.obq_stands.proofs.CellsThere.{config_of}
-use Rattle.obq_stands.proofs.Chains.{bottom}
 use Rattle.obq_stands.proofs.PendingCalls.{OthersStay, fits_in}
 
 -- ---- chains and their sites
@@ -70,7 +64,7 @@ fit_get (tr ∷ trs) [] t s h e = absurd h
 fit_get (tr ∷ trs) (x ∷ ts) zero s h e = let same : x ≡ s = cc e in (tr, refl, h.0 ∙ ap (λ (y : ThreadState). suc (execution_activations y.execution)) same)
 fit_get (tr ∷ trs) (x ∷ ts) (suc t) s h e = fit_get trs ts t s h.1 e
 
-fit_back : (trs : List (List ℕ)) (ts : List ThreadState) (t : ℕ) (tr : List ℕ) → TrailsFit trs ts → slice_get trs t ≡ Some tr → (s : ThreadState) × (slice_get ts t ≡ Some s)
+pub fit_back : (trs : List (List ℕ)) (ts : List ThreadState) (t : ℕ) (tr : List ℕ) → TrailsFit trs ts → slice_get trs t ≡ Some tr → (s : ThreadState) × (slice_get ts t ≡ Some s)
 fit_back [] [] t tr h e = absurd (cc e)
 fit_back [] (x ∷ ts) t tr h e = absurd h
 fit_back (y ∷ trs) [] t tr h e = absurd h
@@ -90,9 +84,13 @@ trail_into p p2 t (EndedAt s e) tr f h = h
 trail_into p p2 t Nowhere tr f h = tt
 trail_into p p2 t Absent tr f h = tt
 
+-- endings that are kept stay
+abbrev pub EndingsStay : World → World → Type 0
+EndingsStay w x = (s v : ℕ) (e : Ending) → w.ended s v ≡ Some e → x.ended s v ≡ Some e
+
 -- where an event leaves another thread
 other_place : (trees : List BlockTree) (turns : ℕ) (w x : World) (inv : StandsFor trees turns w) (inv2 : StandsFor trees turns x) (t u : ℕ) (l : Located) (tr : List ℕ) → located_run trees turns w.journal ≡ Some l → slice_get l.thread_sites u ≡ Some tr
-    → OthersStay w x t → ((s v : ℕ) (e : Ending) → w.ended s v ≡ Some e → x.ended s v ≡ Some e) → (u ≡ t → ⊥) → inv2.stands.place u ≡ inv.stands.place u
+    → OthersStay w x t → EndingsStay w x → (u ≡ t → ⊥) → inv2.stands.place u ≡ inv.stands.place u
 other_place trees turns w x inv inv2 t u l tr r here o ends ne = by (inv.stands.place u) (inv.stands.placed.back u) (inv.stands.threads u) (inv.stands.settled u)
   where
     there : slice_get inv.config.threads u ≡ None → ⊥
@@ -111,7 +109,7 @@ other_place trees turns w x inv inv2 t u l tr r here o ends ne = by (inv.stands.
 
 -- an event of thread t
 pub trails_by : (trees : List BlockTree) (turns : ℕ) (w x : World) (inv : StandsFor trees turns w) (inv2 : StandsFor trees turns x) (t : ℕ) (l l2 : Located) → located_run trees turns w.journal ≡ Some l → AreTrails trees turns w inv l
-    → OthersStay w x t → ((s v : ℕ) (e : Ending) → w.ended s v ≡ Some e → x.ended s v ≡ Some e) → ((u : ℕ) → (u ≡ t → ⊥) → PendingInto x.pending w.pending u) → (u : ℕ) (tr : List ℕ) → (u ≡ t → ⊥) → slice_get l2.thread_sites u ≡ slice_get l.thread_sites u
+    → OthersStay w x t → EndingsStay w x → ((u : ℕ) → (u ≡ t → ⊥) → PendingInto x.pending w.pending u) → (u : ℕ) (tr : List ℕ) → (u ≡ t → ⊥) → slice_get l2.thread_sites u ≡ slice_get l.thread_sites u
     → slice_get l2.thread_sites u ≡ Some tr → TrailIs x.pending u (inv2.stands.place u) tr
 trails_by trees turns w x inv inv2 t l l2 r h o ends into u tr ne same here =
     let old : slice_get l.thread_sites u ≡ Some tr = sym same ∙ here in

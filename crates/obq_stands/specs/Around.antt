@@ -1,5 +1,5 @@
 -- How many activations the thread of a running segment has.
-use Rattle.std.specs.Prelude.{List, Option, Some, [], ◌∷◌, ℕ, ◌+◌, ◌≡◌}
+use Rattle.std.specs.Prelude.{List, Some, [], ◌∷◌, ℕ, ◌+◌, ◌≡◌}
 use Rattle.obq_base.specs.Tree.{BlockTree}
 use Rattle.obq_model.specs.Step.{Operation, Frame, Pending, Needs, find}
 use Rattle.obq_model.specs.Config.{Config}

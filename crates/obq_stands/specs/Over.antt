@@ -8,9 +8,9 @@ use Rattle.obq_model.specs.Config.{Config}
 use Rattle.obq_model.specs.Effect.{in_line, line_of}
 use Rattle.obq_model.specs.Cells.{cell_row, again_row, import_row}
 use Rattle.obq_model.specs.Replay.{replay, IsOver}
-use Rattle.obq_stands.specs.World.{Ref, same_ref, Born, Memory, Slot, Suspended, Packet, Request, Reply, Parked, Ending, World, Idle, Ends, MayAsk}
+use Rattle.obq_stands.specs.World.{with_at, Ref, same_ref, Born, Memory, Slot, Suspended, Packet, Request, Reply, Parked, Ending, World, Idle, Ends, MayAsk}
 use Rattle.obq_stands.specs.Stands.{Stands, StandsFor}
-use Rattle.obq_stands.specs.Events.{Step, world_at}
+use Rattle.obq_stands.specs.Events.{Step, Forks, Run, Begin, Then, windows, world_at}
 use Rattle.obq_model.specs.OneCell.{cell_of}
 
 -- the operation of thread t with the current self s is tried where it is done, and waits
@@ -52,9 +52,23 @@ pub record AtHome (w : World) (home : ℕ → ℕ) : Type 0 where
   pub known : (s k : ℕ) (e : Suspended) → w.pending s k ≡ Some e → e.thread < w.threads
   pub ends : (s t : ℕ) (e : Ending) → w.ended s t ≡ Some e → s ≡ home t
 
+-- the homes behind an event: a new thread's is the site where it was forked
+abbrev pub home_behind : {turns : ℕ} {w x : World} → Step turns w x → (ℕ → ℕ) → ℕ → ℕ
+home_behind (Forks w s t n slot u v hs is few e needs room) home = with_at home w.threads s
+home_behind e home = home
+
 -- each event keeps it; a thread that is there keeps its home
 abbrev pub HomesKept : Type 0
-HomesKept = (trees : List BlockTree) (turns : ℕ) (w x : World) (home : ℕ → ℕ) → StandsFor trees turns w → AtHome w home → Step turns w x → (home2 : ℕ → ℕ) × AtHome x home2 × ((u : ℕ) → u < w.threads → home2 u ≡ home u)
+HomesKept = (trees : List BlockTree) (turns : ℕ) (w x : World) (home : ℕ → ℕ) → StandsFor trees turns w → AtHome w home → (e : Step turns w x) → AtHome x (home_behind e home) × ((u : ℕ) → u < w.threads → home_behind e home u ≡ home u)
+
+-- the homes behind a list of events: thread k of the opening has its home at site k
+abbrev pub homes_of : {turns : ℕ} {w x : World} → Run turns w x → ℕ → ℕ
+homes_of Begin = λ t. t
+homes_of (Then r e) = home_behind e (homes_of r)
+
+-- behind every list of events each thread is at home there
+abbrev pub EveryRunAtHome : Type 0
+EveryRunAtHome = (trees : List BlockTree) (turns : ℕ) (w : World) (r : Run turns (world_at (windows 0 trees)) w) → AtHome w (homes_of r)
 
 -- at the start thread k has its home at site k
 abbrev pub HomesBegin : Type 0

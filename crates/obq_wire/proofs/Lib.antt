@@ -10,5 +10,6 @@ pub mod FrameLaws
 pub mod WalkLaws
 pub mod Earlier
 pub mod SeenLaws
+pub mod AscendingLaws
 pub mod Numbered
 pub mod BehindTags

@@ -3,6 +3,7 @@ pub mod Fits
 pub mod Order
 pub mod Walk
 pub mod Seen
+pub mod Ascending
 pub mod Reading
 pub mod Frames
 pub mod Tags

@@ -2,6 +2,7 @@
 
 ghost use Rattle.std.specs.Prelude.{◌≡◌, ◌<◌, ◌||◌, [], List, ℕ, length, not, IfOk, OnOk, IfSome};
 ghost use Rattle.obq_base.specs.declared.values.GroupNo.{GroupNo as Number};
+ghost use Rattle.obq_wire.specs.Ascending.{ascend, is_before, needless};
 ghost use Rattle.obq_wire.specs.Fits.{HasFields};
 ghost use Rattle.obq_wire.specs.Order.{misplaced, misplaced_from, same_number};
 ghost use Rattle.obq_wire.specs.Seen.{has_seen};
@@ -23,6 +24,42 @@ fn is_new(seen: &mut BTreeSet<(u32, u64)>, g: GroupNo) -> Result<bool, NoMemory>
     Ok(seen.insert((g.thread, g.n))?)
 }
 
+/// Whether a number stands before another: by the thread, then by its count.
+fn is_before(g: GroupNo, h: GroupNo) -> bool
+    ensures { result ≡ is_before g h }
+{
+    g.thread < h.thread || (g.thread == h.thread && g.n < h.n)
+}
+
+/// Whether the numbers of a table ascend, so that none is there twice.
+fn ascend(table: &[TableEntry]) -> bool
+    ensures { result ≡ ascend table.now }
+{
+    let Some((first, rest)) = table.split_first() else {
+        return true;
+    };
+    let mut last = first.number;
+    for entry in rest {
+        if !is_before(last, entry.number) {
+            return false;
+        }
+        last = entry.number;
+    }
+    true
+}
+
+/// The first entry that isn't needed at its place.
+fn first_needless(table: &[TableEntry], agreed: usize) -> Option<usize>
+    ensures { result ≡ needless agreed (length table.now) }
+{
+    if agreed < table.len() {
+        Some(agreed)
+    } else {
+        None
+    }
+}
+
+/// Numbers mostly ascend, since a closure is made behind those that it captured: then no set is needed.
 fn first_wrong(
     alloc: Global,
     table: &[TableEntry],
@@ -31,6 +68,9 @@ fn first_wrong(
     ensures wrong { (needed : List ℕ) → IsAgreement needed agreed → IfOk result (λ k. k ≡ misplaced_from needed [] table.now) }
     ensures within { IfOk result (λ k. IfSome k (λ i. i < length table.now)) }
 {
+    if ascend(table) {
+        return Ok(first_needless(table, agreed));
+    }
     let mut seen = BTreeSet::new(alloc);
     for k in 0..table.len() {
         if k == agreed {
