@@ -16,9 +16,11 @@ trap 'rm -rf "$folder"' EXIT
 program=$PWD/crates/obq_pure_cases/out/obq_pure_cases
 [ -x "$program" ] || { cat "$folder/log" >&2; exit 1; }
 
+printf '1\n' > "$folder/blocks"
+
 # best_of BLOCK: the least time in nanoseconds, and the steps
 best_of() {
-    printf '%s\n' "$1" > "$folder/blocks"
+    printf '%s\n' "$1" > "$folder/deep"
     best=
     for _ in $(seq "$runs"); do
         from=$(date +%s%N)
@@ -26,7 +28,7 @@ best_of() {
         taken=$(($(date +%s%N) - from))
         if [ -z "$best" ] || [ "$taken" -lt "$best" ]; then best=$taken; fi
     done
-    echo "$best $(awk '$2 == "steps," { print $1 }' "$folder/out")"
+    echo "$best $(awk '$2 == "steps," { steps = $1 } END { print steps }' "$folder/out")"
 }
 
 idle=$(best_of '')
