@@ -1,7 +1,6 @@
 pub mod Builtins
 pub mod Cells
 pub mod CodeLaws
-pub mod CommandLine
 pub mod Config
 pub mod Depth
 pub mod Draft
@@ -24,7 +23,6 @@ pub mod Opening
 pub mod Output
 pub mod Procedures
 pub mod Put
-pub mod PutTexts
 pub mod Reading
 pub mod Refusals
 pub mod Replay

@@ -15,7 +15,7 @@ use Rattle.obq_base.specs.Tree.{BlockTree}
 use Rattle.obq_model.specs.Grammar.{Derives}
 use Rattle.obq_model.specs.Occurrences.{IsFirstUnbound, unbound}
 use Rattle.obq_model.specs.Tokens.{IsReading}
-use Rattle.obq_model.specs.PutTexts.{AreGroups, IsPutTexts, StopsAt}
+use Rattle.obq_run.specs.PutTexts.{AreGroups, IsPutTexts, StopsAt}
 use Rattle.obq_model.specs.Sources.{AreAccepted, IsAccepted, IsFault, IsFirstRefused, here, later}
 use Rattle.obq_run.specs.declared.ends.Cause.{Cause}
 use Rattle.obq_run.specs.declared.ends.Cause.TheVariants.{Checked, NoMemory, NotYet, Ran, ReadFault, Refused, SourceTooLong, TooManySites, Usage, WriteFault}

@@ -15,7 +15,7 @@ use Rattle.obq_base.specs.Tree.{AnItem, BlockOf}
 use Rattle.obq_base.specs.View.{block_tree, item_tree, items_of}
 use Rattle.obq_model.specs.Grammar.{IsBlock, IsExpr, IsItem, IsMore, IsPrim, IsSuffixed, apply, args, arguments, chain, empty, expr, items, level, more, name, no_arg, no_link, no_suffix, one_arg, one_suffix, operand, plain, semicolon, text}
 use Rattle.obq_model.specs.Nodes.{block, place, suffixed, token}
-use Rattle.obq_model.specs.PutTexts.{AreGroups, group, is_end, is_end_kind, is_name, is_row, no_group}
+use Rattle.obq_run.specs.PutTexts.{AreGroups, group, is_end, is_end_kind, is_name, is_row, no_group}
 use Rattle.obq_model.specs.Tokens.{IfEnd, IsEnded}
 use Rattle.obq_model.specs.Words.{sym_close, sym_comma, sym_open, sym_semicolon}
 use Rattle.obq_laws.specs.Printing.{Print, print_item, print_items, texts_of}

@@ -13,7 +13,7 @@ use Rattle.obq_model.proofs.Widths.{reading_width, width_of-cons}
 use Rattle.obq_model.specs.Grammar.{Derives, IsBlock}
 use Rattle.obq_model.specs.Nodes.{block, place, token}
 use Rattle.obq_model.specs.Occurrences.{builtin_row, free_items, is_predefined, unbound}
-use Rattle.obq_model.specs.PutTexts.{AreGroups, IsPutTexts, group, no_group}
+use Rattle.obq_run.specs.PutTexts.{AreGroups, IsPutTexts, group, no_group}
 use Rattle.obq_model.specs.Replay.{TakeTurns, replay}
 use Rattle.obq_model.specs.Sources.{IsAccepted}
 use Rattle.obq_model.specs.Tokens.{IsReading}

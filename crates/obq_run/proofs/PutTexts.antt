@@ -3,7 +3,7 @@ use Rattle.std.proofs.Common.{Bool, Err, List, None, Ok, Option, Result, Some, [
 use Rattle.obq_base.specs.declared.tokens.Token.{Token}
 use Rattle.obq_base.specs.declared.tokens.TokenKind.{TokenKind}
 use Rattle.obq_base.specs.declared.tokens.TokenKind.TheVariants as kind
-use Rattle.obq_model.specs.PutTexts.{AreGroups, behind, group, group_at, is_end, is_end_kind, is_name, is_symbol, no_group, text_at, text_of, ◌>>=◌, ◌else_tokens◌}
+use Rattle.obq_run.specs.PutTexts.{AreGroups, behind, group, group_at, is_end, is_end_kind, is_name, is_symbol, no_group, text_at, text_of, ◌>>=◌, ◌else_tokens◌}
 use Rattle.obq_model.specs.Words.{sym_close, sym_comma, sym_open, sym_semicolon}
 
 -- a test that chose a value

@@ -10,7 +10,7 @@ use Rattle.obq_front.specs.Contents.{AllWithin}
 use Rattle.obq_model.specs.Config.{Config, Failed, Returned, Running, ThreadState}
 use Rattle.obq_model.specs.Journal.{Journal}
 use Rattle.obq_model.specs.Output.{run_text}
-use Rattle.obq_model.specs.PutTexts.{IsPutTexts, StopsAt}
+use Rattle.obq_run.specs.PutTexts.{IsPutTexts, StopsAt}
 use Rattle.obq_model.specs.Replay.{IsOver, TakeTurns, output, replay, report, status}
 use Rattle.obq_model.specs.Sources.{AreAccepted, IsFirstRefused}
 use Rattle.obq_model.specs.Tokens.{IsReading}

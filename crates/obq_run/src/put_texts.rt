@@ -2,7 +2,7 @@
 
 ghost use Rattle.std.specs.Prelude.{◌≡◌, ◌<◌, ◌≤◌, ◌^◌, ◌∷◌, ◌++◌, [], None, Some, OnOk, IfErr, MatchOption, MatchResult, length};
 ghost use Rattle.obq_base.specs.declared.tokens.TokenKind.TheVariants as kind;
-ghost use Rattle.obq_model.specs.PutTexts.{behind, group_at, is_end, is_name, is_symbol, text_at, IsPutTexts, StopsAt};
+ghost use Rattle.obq_run.specs.PutTexts.{behind, group_at, is_end, is_name, is_symbol, text_at, IsPutTexts, StopsAt};
 ghost use Rattle.obq_run.specs.Pieces.{IfAt, Shows};
 
 use obq_base::{NoMemory, Text, Token, TokenKind};
@@ -84,7 +84,7 @@ fn is_end(tokens: &[Token]) -> bool
 }
 
 /// The text of one group and the tokens behind it, or how many of its tokens stand there.
-#[tactic(auto, unfolding(obq_model::specs::PutTexts::group_at))]
+#[tactic(auto, unfolding(crate::specs::PutTexts::group_at))]
 fn group_of(tokens: &[Token]) -> Result<(&Text, &[Token]), u32>
     ensures shown { Shows result (group_at tokens.now) }
     ensures few { IfErr result (λ n. n < 7) }

@@ -4,7 +4,7 @@ ghost use Rattle.std.specs.Prelude.{◌≡◌, ◌⊎◌, ◌<◌, [], None, Som
 ghost use Rattle.std.specs.Io.KnownBytes.{Appends};
 ghost use Rattle.obq_io.specs.Causes.{Rose};
 ghost use Rattle.obq_io.specs.Known.{GetsPrefix};
-ghost use Rattle.obq_model.specs.CommandLine.{TooManyAt, UsageAt, bad_word, is_checking};
+ghost use Rattle.obq_words.specs.CommandLine.{TooManyAt, UsageAt, bad_word, is_checking};
 ghost use Rattle.obq_model.specs.Output.{check_text};
 ghost use Rattle.obq_journal.specs.Recording.{shown};
 ghost use Rattle.obq_run.specs.Ends.{GetsLine, IfNotYet, IfReadFault, IfRefused, IfTooLong, IsRefusal, MatchWords, OnChecked, OnRan, OnWriteFault, line_of, status_of};

@@ -6,7 +6,7 @@ use Rattle.std.proofs.lemmas.List.Folds.{list_all-append}
 use Rattle.std.proofs.lemmas.Map.Keys.{IsDistinct-push}
 use Rattle.std.proofs.lemmas.Cmp.{nat_list_eq_equiv}
 use Rattle.std.specs.List.{IsDistinct, list_all, list_any}
-use Rattle.obq_model.specs.CommandLine.{UsageAt, WordFault, bad_behind_sites, bad_word, is_command, is_site_name, name_part}
+use Rattle.obq_words.specs.CommandLine.{UsageAt, WordFault, bad_behind_sites, bad_word, is_command, is_site_name, name_part}
 use Rattle.obq_model.specs.Put.{among}
 use Rattle.obq_words.specs.declared.words.SiteWord.{SiteWord}
 use Rattle.obq_words.specs.Words.{AreInForm, AreSites, given_names, names_in}

@@ -3,7 +3,7 @@ use Rattle.std.specs.Prelude.{Err, List, None, Ok, Option, Result, Some, String,
 use Rattle.std.specs.List.{IsDistinct, list_all}
 use Rattle.std.specs.declared.alloc.Global.{Global}
 use Rattle.std.specs.String.{string_bytes}
-use Rattle.obq_model.specs.CommandLine.{TooManyAt, UsageAt, WordFault, bad_word, is_checking, is_site_name, name_part, path_part, site_words}
+use Rattle.obq_words.specs.CommandLine.{TooManyAt, UsageAt, WordFault, bad_word, is_checking, is_site_name, name_part, path_part, site_words}
 use Rattle.obq_words.specs.declared.words.Order.{Order}
 use Rattle.obq_words.specs.declared.words.Order.TheVariants.{Check, Run}
 use Rattle.obq_words.specs.declared.words.SiteWord.{SiteWord}

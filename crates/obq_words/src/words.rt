@@ -2,7 +2,7 @@
 
 ghost use Rattle.std.specs.Prelude.{◌≡◌, ◌&&◌, IfOk, MatchResult, None, not, string_bytes};
 ghost use Rattle.std.specs.List.{list_all};
-ghost use Rattle.obq_model.specs.CommandLine.{bad_behind_command, is_name_byte, is_site_name, is_site_word, name_part, path_part};
+ghost use Rattle.obq_words.specs.CommandLine.{bad_behind_command, is_name_byte, is_site_name, is_site_word, name_part, path_part};
 ghost use Rattle.obq_model.specs.Put.{among};
 ghost use Rattle.obq_words.specs.Words.{Answers, Tells, bytes_of, names_in, names_of, paths_in, paths_of};
 

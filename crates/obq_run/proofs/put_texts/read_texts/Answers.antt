@@ -1,7 +1,7 @@
 use Rattle.std.proofs.Common.{List, [], append_assoc, arith, false, length, sym, true, ℕ, ◌*◌, ◌++◌, ◌≡◌, ◌≤◌, ◌∙◌, ◌∷◌}
 use Rattle.std.proofs.lemmas.List.{append-nil}
 use Rattle.obq_base.specs.declared.tokens.Token.{Token}
-use Rattle.obq_model.specs.PutTexts.{AreGroups, group, is_end, no_group}
+use Rattle.obq_run.specs.PutTexts.{AreGroups, group, is_end, no_group}
 use Rattle.obq_run.proofs.PutTexts.{group_before, groups-shorter}
 use Rattle.obq_run.proofs.put_texts.read_texts.Goals as goal
 

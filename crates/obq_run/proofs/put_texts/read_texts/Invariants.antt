@@ -1,6 +1,6 @@
 use Rattle.std.proofs.Common.{List, length, ℕ, ◌++◌}
 use Rattle.obq_base.specs.declared.tokens.Token.{Token}
-use Rattle.obq_model.specs.PutTexts.{AreGroups}
+use Rattle.obq_run.specs.PutTexts.{AreGroups}
 use Rattle.obq_run.proofs.put_texts.read_texts.Given as goal
 
 -- groups of the rest complete those that were read

@@ -2,7 +2,7 @@ use Rattle.std.proofs.Common.{Err, List, subst}
 use Rattle.obq_base.specs.declared.tokens.Token.{Token}
 use Rattle.obq_lex.specs.Lexes.{Lexes}
 use Rattle.obq_lex.specs.declared.lexer.LexRefused.TheVariants.{Fault}
-use Rattle.obq_model.specs.PutTexts.{IsPutTexts}
+use Rattle.obq_run.specs.PutTexts.{IsPutTexts}
 use Rattle.obq_run.proofs.PutHistory.{end_of}
 use Rattle.obq_run.proofs.RunRefusals.{never_faulty}
 use Rattle.obq_run.proofs.run.run_source.Goals as goal

@@ -1,5 +1,5 @@
 use Rattle.std.proofs.Common.{drop, suc, take, ◌≡◌, ◌≤◌}
-use Rattle.obq_model.specs.CommandLine.{bad_behind_command, bad_behind_sites}
+use Rattle.obq_words.specs.CommandLine.{bad_behind_command, bad_behind_sites}
 use Rattle.obq_words.specs.Words.{bytes_of, names_in}
 use Rattle.obq_words.proofs.words.check_sites.Given as goal
 

@@ -4,7 +4,7 @@ use Rattle.std.specs.String.{string_bytes}
 use Rattle.std.proofs.lemmas.Iterator.{YieldsList-from_slice}
 use Rattle.std.proofs.lemmas.Iterator.Search.{any_from_yields_List}
 use Rattle.std.proofs.lemmas.List.Recursion.{same_from_clauses}
-use Rattle.obq_model.specs.CommandLine.{name_part}
+use Rattle.obq_words.specs.CommandLine.{name_part}
 use Rattle.obq_model.specs.Put.{among}
 use Rattle.obq_words.specs.Words.{bytes_of, names_in}
 use Rattle.obq_words.proofs.words.is_given.Goals as goal
