@@ -10,6 +10,21 @@ use std::thread::Threads;
 /// The room of a sink, in bytes, where a case doesn't say it.
 const ROOM: u32 = 4096;
 
+/// What is made of a call, and printed.
+#[derive(Clone, Copy, PartialEq, Eq)]
+pub enum Shown {
+    /// How it ended, with what each sink got and the entries of its journal.
+    Whole,
+    /// The same with the number of entries alone.
+    Brief,
+    /// The same of a call over files that never fail, and sinks that keep the number of bytes alone.
+    Counted,
+    /// How a run with its journal ended, and what the replay of that journal comes to.
+    Replayed,
+    /// How the call ends with each cut of its last file, and with each other byte at each place there.
+    Changed,
+}
+
 /// A case: the words of a call, and the files and sinks that it meets.
 #[derive(Drop)]
 pub struct Call {
@@ -17,7 +32,7 @@ pub struct Call {
     files: Vec<(String, Vec<u8>)>,
     fails: Vec<u64>,
     room: u32,
-    counted: bool,
+    shown: Shown,
 }
 
 /// What came of a call, with what each sink got.
@@ -55,13 +70,58 @@ impl Call {
             files: Vec::new(alloc),
             fails: Vec::new(alloc),
             room: ROOM,
-            counted: false,
+            shown: Shown::Whole,
         }
     }
 
-    /// Whether it is made over files that never fail, and sinks that keep the number of bytes alone.
-    pub fn is_counted(&self) -> bool {
-        self.counted
+    /// What is made of it.
+    pub fn shown(&self) -> Shown {
+        self.shown
+    }
+
+    /// The bytes of its last file.
+    pub fn last_bytes(&self) -> &[u8] {
+        match self.files.last() {
+            Some((_, bytes)) => bytes,
+            None => &[],
+        }
+    }
+
+    /// The same call with these bytes in its last file.
+    pub fn with_last(&self, alloc: Global, last: &[u8]) -> Result<Call, AllocError> {
+        let mut call = Call::new(alloc);
+        for word in &self.words {
+            call.add_word(alloc, word.as_str())?;
+        }
+        for (path, bytes) in &self.files {
+            call.add_file(alloc, path.as_str())?;
+            call.add_bytes(1, bytes)?;
+        }
+        if let Some(file) = call.files.last_mut() {
+            file.1.clear();
+            file.1.extend_from_slice(last)?;
+        }
+        Ok(call)
+    }
+
+    /// The replay of a journal, which is still to be added, over the same sources.
+    pub fn replay(&self, alloc: Global) -> Result<Call, AllocError> {
+        let mut call = Call::new(alloc);
+        call.room = self.room;
+        for word in ["replay", "--from", "journal"] {
+            call.add_word(alloc, word)?;
+        }
+        for word in &self.words {
+            if word.contains('=') {
+                call.add_word(alloc, word.as_str())?;
+            }
+        }
+        for (path, bytes) in &self.files {
+            call.add_file(alloc, path.as_str())?;
+            call.add_bytes(1, bytes)?;
+        }
+        call.add_file(alloc, "journal")?;
+        Ok(call)
     }
 
     pub fn add_word(&mut self, alloc: Global, word: &str) -> Result<(), AllocError> {
@@ -86,6 +146,15 @@ impl Call {
         Ok(())
     }
 
+    /// Appends the entries of a journal to the last file, a line each, which a comma and a space part.
+    fn add_entries(&mut self, entries: &str) -> Result<(), AllocError> {
+        for entry in entries.split(", ") {
+            self.add_bytes(1, entry.as_bytes())?;
+            self.add_bytes(1, b"\n")?;
+        }
+        Ok(())
+    }
+
     /// What a line says: its first word, and what stands behind it.
     pub fn add_line(&mut self, alloc: Global, word: &str, rest: &str) -> Result<(), AllocError> {
         match word.as_bytes() {
@@ -96,6 +165,11 @@ impl Call {
             }
             b"file" => self.add_file(alloc, rest)?,
             b"text" => self.add_bytes(1, rest.as_bytes())?,
+            b"line" => {
+                self.add_bytes(1, rest.as_bytes())?;
+                self.add_bytes(1, b"\n")?;
+            }
+            b"entries" => self.add_entries(rest)?,
             b"byte" => self.add_bytes(1, &[rest.parse::<u8>().unwrap_or(0)])?,
             b"times" => {
                 let (count, piece) = rest.split_once(' ').unwrap_or((rest, " "));
@@ -103,7 +177,10 @@ impl Call {
             }
             b"fails" => self.fails.push(rest.parse::<u64>().unwrap_or(0))?,
             b"room" => self.room = rest.parse::<u32>().unwrap_or(0),
-            b"counted" => self.counted = true,
+            b"brief" => self.shown = Shown::Brief,
+            b"counted" => self.shown = Shown::Counted,
+            b"replayed" => self.shown = Shown::Replayed,
+            b"changed" => self.shown = Shown::Changed,
             _ => {}
         }
         Ok(())

@@ -5,14 +5,19 @@
 #![tactic(auto)]
 
 mod calls;
+mod changes;
 mod rows;
 
 use crate::calls::Call;
 use crate::rows::{print_call, print_row};
 use std::alloc::Global;
+use std::rt::{Env, Files};
 use std::sync::Wait;
-use std::thread::Threads;
-use std::{env, fs, io};
+use std::thread::{Builder, Threads};
+use std::{env, fs, io, thread};
+
+/// The stack of the thread that runs the cases, as large as that of the program.
+const STACK_BYTES: usize = 1 << 30;
 
 /// Runs a block that is one case.
 fn run_call<R: Threads + Wait + Sync + Print>(
@@ -62,14 +67,26 @@ fn run_block<R: Threads + Wait + Sync + Print>(
     }
 }
 
-fn main(rt: HostRuntime) -> io::Result<()> {
+/// Runs the cases of the files that the arguments name.
+fn run_files<R: Threads + Wait + Sync + Print + Env + Files + AllocGlobal>(
+    rt: &R,
+) -> io::Result<()> {
     let alloc = rt.alloc();
-    for path in env::args(&rt)?.skip(1) {
-        let text = fs::read_to_string(&rt, path.as_str())?;
+    for path in env::args(rt)?.skip(1) {
+        let text = fs::read_to_string(rt, path.as_str())?;
         for block in text.trim_end_matches('\n').split("\n\n") {
-            run_block(&rt, alloc, block)?;
+            run_block(rt, alloc, block)?;
             rt.println("")?;
         }
     }
     Ok(())
+}
+
+fn main(rt: HostRuntime) -> io::Result<()> {
+    thread::scope(thread::scope_env(), &rt, |scope| {
+        Builder::new()
+            .stack_size(STACK_BYTES)
+            .spawn_scoped(scope, || run_files(&rt))?
+            .join(&rt)
+    })
 }

@@ -31,8 +31,38 @@ fn shown(alloc: Global, sites: &[SiteWord]) -> Result<String, AllocError> {
     Ok(text)
 }
 
-fn print_order(rt: &impl Print, line: &str, command: &str, sites: &str) -> io::Result<()> {
-    println!(rt; "{line}  =>  {command} {sites}")
+fn print_run(
+    rt: &impl Print,
+    line: &str,
+    turns: u32,
+    journal: bool,
+    sites: &str,
+) -> io::Result<()> {
+    let journal = if journal { ", journal" } else { "" };
+    println!(rt; "{line}  =>  run, {turns} turns{journal}: {sites}")
+}
+
+fn print_check(rt: &impl Print, line: &str, sites: &str) -> io::Result<()> {
+    println!(rt; "{line}  =>  check: {sites}")
+}
+
+fn print_replay(rt: &impl Print, line: &str, from: &str, sites: &str) -> io::Result<()> {
+    println!(rt; "{line}  =>  replay from {from}: {sites}")
+}
+
+/// Prints what a line asks for behind it.
+fn print_order(rt: &impl Print, alloc: Global, line: &str, order: Order) -> io::Result<()> {
+    match order {
+        Order::Run {
+            turns,
+            journal,
+            sites,
+        } => print_run(rt, line, turns, journal, &shown(alloc, &sites)?),
+        Order::Check { sites } => print_check(rt, line, &shown(alloc, &sites)?),
+        Order::Replay { from, sites } => {
+            print_replay(rt, line, from.as_str(), &shown(alloc, &sites)?)
+        }
+    }
 }
 
 /// Lines, with what the words of each give.
@@ -40,8 +70,7 @@ pub fn print_lines(rt: &impl Print, alloc: Global, lines: &str) -> io::Result<()
     for line in lines.trim_end_matches('\n').split('\n') {
         let words = word_list(alloc, line)?;
         match read_words(alloc, &words) {
-            Ok(Order::Run { sites }) => print_order(rt, line, "run", &shown(alloc, &sites)?)?,
-            Ok(Order::Check { sites }) => print_order(rt, line, "check", &shown(alloc, &sites)?)?,
+            Ok(order) => print_order(rt, alloc, line, order)?,
             Err(refused) => println!(rt; "{line}  =>  {refused:?}")?,
         }
     }

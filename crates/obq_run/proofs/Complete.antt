@@ -1,7 +1,9 @@
--- A call on sources that are accepted is not refused where no count of faults rose.
-use Rattle.std.proofs.Common.{List, Option, Some, [], ap, arith, length, refl, slice_get, subst, suc, sym, zero, ℕ, ◌<◌, ◌≡◌, ◌≤◌, ◌∷◌}
+-- A call on sources that are accepted, and on a journal that is legal and over, is not refused where no count of faults rose.
+use Rattle.std.proofs.Common.{Err, List, None, Ok, Option, Some, [], ap, arith, false, length, map, refl, slice_get, subst, suc, sym, true, zero, ℕ, ◌++◌, ◌<◌, ◌≡◌, ◌≤◌, ◌∙◌, ◌∷◌}
+use Rattle.std.specs.Prelude.{Result, is_none, is_some}
 use Rattle.std.specs.Prelude.{IsSomeAnd}
 use Rattle.obq_base.specs.declared.faults.SourceFault.{SourceFault}
+use Rattle.obq_base.specs.declared.limits.TheConstants.{JOURNAL_LIMIT, SOURCE_LIMIT}
 use Rattle.obq_base.specs.declared.faults.SourceFault.TheVariants.{Lexical, Syntax, Unbound}
 use Rattle.obq_base.specs.declared.tokens.Token.{Token}
 use Rattle.obq_base.specs.declared.trees.Block.{Block}
@@ -15,15 +17,18 @@ use Rattle.obq_base.specs.Tree.{BlockTree}
 use Rattle.obq_model.specs.Grammar.{Derives}
 use Rattle.obq_model.specs.Occurrences.{IsFirstUnbound, unbound}
 use Rattle.obq_model.specs.Tokens.{IsReading}
-use Rattle.obq_run.specs.PutTexts.{AreGroups, IsPutTexts, StopsAt}
 use Rattle.obq_model.specs.Sources.{AreAccepted, IsAccepted, IsFault, IsFirstRefused, here, later}
+use Rattle.obq_model.specs.Config.{Config}
+use Rattle.obq_model.specs.Journal.{Journal}
+use Rattle.obq_model.specs.JournalText.{journal_in}
+use Rattle.obq_model.specs.Refusals.{first_illegal}
+use Rattle.obq_model.specs.Replay.{IsOver, first_able, replay}
 use Rattle.obq_run.specs.declared.ends.Cause.{Cause}
-use Rattle.obq_run.specs.declared.ends.Cause.TheVariants.{Checked, NoMemory, NotYet, Ran, ReadFault, Refused, SourceTooLong, TooManySites, Usage, WriteFault}
-use Rattle.obq_run.specs.Ends.{IfNotYet, IfReadFault, IfRefused, IfTooLong, IsCheckRefusal, IsRunRefusal}
+use Rattle.obq_run.specs.declared.ends.Cause.TheVariants.{BadJournal, Checked, JournalTooLong, NoMemory, NotLegal, Ran, ReadFault, Refused, Replayed, SourceTooLong, TooManySites, Unfinished, Usage, WriteFault}
+use Rattle.obq_run.specs.Ends.{IfReadFault, IfRefused, IfTooLong, IsSourceRefusal}
 use Rattle.obq_run.specs.Held.{AreHeld, AreTold, IsFaultAt, IsTooLongAt}
-use Rattle.obq_run.specs.Runs.{CheckCompletes, IsNotYetOf, IsRefusalOf, NoneRose, NotYetCompletes, OnlyWrites, RunCompletes, StopsRun}
-use Rattle.obq_run.proofs.PutHistory.{accepted_texts}
-use Rattle.obq_run.proofs.PutTexts.{not_both}
+use Rattle.obq_run.specs.Runs.{Completes, HasBadLine, HasIllegal, IsRefusalOf, LeavesAble, NoneRose, ReplayCompletes, ReplayRefusal, WithJournal}
+use Rattle.obq_laws.proofs.Refused.{first_able_law, illegal_or_replays}
 
 -- ---- what is told is what was read
 
@@ -87,84 +92,117 @@ refusal_not : (holds : List ℕ → Option (List ℕ)) (limit : ℕ) (paths sour
 refusal_not holds limit paths sources trees k fault told accepted h =
     not_refused trees accepted (subst (λ ss. IsFirstRefused ss k fault) (same_sources holds limit paths sources h.sources told h.held) h.refused)
 
--- ---- a run
+-- ---- sources that are accepted
 
-stops_not : {tokens others : List Token} (texts : List (List ℕ)) (k : ℕ) → others ≡ tokens → IsPutTexts tokens texts → StopsAt others k → ⊥
-stops_not {tokens} {others} texts k e (rest, groups, end) (more, left, n, those, other, fault, count) =
-    not_both groups (subst (λ ts. AreGroups more ts left) e those) end other fault
-
-not_yet_not : (holds : List ℕ → Option (List ℕ)) (limit : ℕ) (paths : List (List ℕ)) (source : List ℕ) (tokens : List Token) (texts : List (List ℕ)) (s k : ℕ)
-    → AreTold holds paths (source ∷ []) → IsReading source tokens → IsPutTexts tokens texts → IsNotYetOf holds limit paths s k → ⊥
-not_yet_not holds limit paths source tokens texts s k told is_read form h =
-    let stops : StopsRun (source ∷ []) s k = subst (λ ss. StopsRun ss s k) (same_sources holds limit paths (source ∷ []) h.sources told h.held) h.stops in
-    let others = stops.1.0 in
-    stops_not texts k (one_reading source others tokens stops.1.1 is_read) form stops.1.2
-
-pub run_refused : (holds : List ℕ → Option (List ℕ)) (limit : ℕ) (paths : List (List ℕ)) (Rises : List ℕ → Type 0) (output_rose : Type 0) (cause : Cause) → IsRunRefusal cause
-    → IfReadFault cause (IsFaultAt holds limit Rises paths) → IfTooLong cause (IsTooLongAt holds limit paths)
-    → IfRefused cause (IsRefusalOf holds limit paths) → IfNotYet cause (IsNotYetOf holds limit paths) → RunCompletes holds limit paths Rises output_rose cause
-run_refused holds limit paths Rises out NoMemory only read long faulty yet = λ source tokens texts told within is_read form none calm. tt
-run_refused holds limit paths Rises out (ReadFault file) only read long faulty yet = λ source tokens texts told within is_read form none calm. absurd (none_at Rises paths file none read.1)
-run_refused holds limit paths Rises out (SourceTooLong s) only read long faulty yet =
-    λ source tokens texts told within is_read form none calm. absurd (too_long_at holds limit paths (source ∷ []) s told (within, tt) long.1)
-run_refused holds limit paths Rises out (Refused s fault) only read long faulty yet =
-    λ source tokens texts told within is_read form none calm. (
-    let tree : (tree : Block) × IsAccepted source tokens tree = accepted_texts source tokens texts is_read form in
-    absurd (refusal_not holds limit paths (source ∷ []) (tree.0 ∷ []) s fault told ((tokens, tree.1), tt) faulty)
-    )
-run_refused holds limit paths Rises out (NotYet s k) only read long faulty yet =
-    λ source tokens texts told within is_read form none calm. absurd (not_yet_not holds limit paths source tokens texts s k told is_read form yet)
-run_refused holds limit paths Rises out Ran only read long faulty yet = absurd only
-run_refused holds limit paths Rises out Checked only read long faulty yet = absurd only
-run_refused holds limit paths Rises out (Usage word) only read long faulty yet = absurd only
-run_refused holds limit paths Rises out (TooManySites word) only read long faulty yet = absurd only
-run_refused holds limit paths Rises out WriteFault only read long faulty yet = absurd only
-
--- ---- sources that don't run yet
-
-pub not_yet_refused : (holds : List ℕ → Option (List ℕ)) (limit : ℕ) (paths : List (List ℕ)) (Rises : List ℕ → Type 0) (output_rose : Type 0) (cause : Cause) → IsRunRefusal cause
-    → IfReadFault cause (IsFaultAt holds limit Rises paths) → IfTooLong cause (IsTooLongAt holds limit paths)
-    → IfRefused cause (IsRefusalOf holds limit paths) → NotYetCompletes holds limit paths Rises output_rose cause
-not_yet_refused holds limit paths Rises out NoMemory only read long faulty = λ sources trees s k told within accepted stops none calm. tt
-not_yet_refused holds limit paths Rises out (NotYet t j) only read long faulty = λ sources trees s k told within accepted stops none calm. tt
-not_yet_refused holds limit paths Rises out (ReadFault file) only read long faulty = λ sources trees s k told within accepted stops none calm. absurd (none_at Rises paths file none read.1)
-not_yet_refused holds limit paths Rises out (SourceTooLong t) only read long faulty =
-    λ sources trees s k told within accepted stops none calm. absurd (too_long_at holds limit paths sources t told within long.1)
-not_yet_refused holds limit paths Rises out (Refused t fault) only read long faulty =
-    λ sources trees s k told within accepted stops none calm. absurd (refusal_not holds limit paths sources trees t fault told accepted faulty)
-not_yet_refused holds limit paths Rises out Ran only read long faulty = absurd only
-not_yet_refused holds limit paths Rises out Checked only read long faulty = absurd only
-not_yet_refused holds limit paths Rises out (Usage word) only read long faulty = absurd only
-not_yet_refused holds limit paths Rises out (TooManySites word) only read long faulty = absurd only
-not_yet_refused holds limit paths Rises out WriteFault only read long faulty = absurd only
-
--- what ran is one source that only writes texts
-form_not : (holds : List ℕ → Option (List ℕ)) (limit : ℕ) (paths : List (List ℕ)) (source : List ℕ) (sources : List (List ℕ)) (s k : ℕ) → AreTold holds paths sources → AreHeld holds limit paths (source ∷ [])
-    → OnlyWrites source → StopsRun sources s k → ⊥
-form_not holds limit paths source sources s k told held form stops =
-    let one : StopsRun (source ∷ []) s k = subst (λ ss. StopsRun ss s k) (sym (same_sources holds limit paths sources (source ∷ []) told held)) stops in
-    let tokens = form.0 in
-    let texts = form.1 in
-    stops_not texts k (one_reading source one.1.0 tokens one.1.1 form.2) form.3 one.1.2
-
-pub not_yet_finished : (holds : List ℕ → Option (List ℕ)) (limit : ℕ) (paths : List (List ℕ)) (source : List ℕ) (Rises : List ℕ → Type 0) (output_rose : Type 0) (cause : Cause)
-    → AreHeld holds limit paths (source ∷ []) → OnlyWrites source → NotYetCompletes holds limit paths Rises output_rose cause
-not_yet_finished holds limit paths source Rises out cause held form = λ sources trees s k told within accepted stops none calm. absurd (form_not holds limit paths source sources s k told held form stops)
-
--- ---- a check
-
-pub check_refused : (holds : List ℕ → Option (List ℕ)) (limit : ℕ) (paths : List (List ℕ)) (Rises : List ℕ → Type 0) (output_rose : Type 0) (cause : Cause) → IsCheckRefusal cause
-    → IfReadFault cause (IsFaultAt holds limit Rises paths) → IfTooLong cause (IsTooLongAt holds limit paths)
-    → IfRefused cause (IsRefusalOf holds limit paths) → CheckCompletes holds limit paths Rises output_rose cause
-check_refused holds limit paths Rises out NoMemory only read long faulty = λ sources trees told within accepted none calm. tt
-check_refused holds limit paths Rises out (ReadFault file) only read long faulty = λ sources trees told within accepted none calm. absurd (none_at Rises paths file none read.1)
-check_refused holds limit paths Rises out (SourceTooLong s) only read long faulty =
+pub source_refused : (Ends : Cause → Type 0) (holds : List ℕ → Option (List ℕ)) (limit : ℕ) (paths : List (List ℕ)) (Rises : List ℕ → Type 0) (output_rose : Type 0) (cause : Cause) → Ends NoMemory
+    → IsSourceRefusal cause → IfReadFault cause (IsFaultAt holds limit Rises paths) → IfTooLong cause (IsTooLongAt holds limit paths)
+    → IfRefused cause (IsRefusalOf holds limit paths) → Completes Ends holds limit paths Rises output_rose cause
+source_refused Ends holds limit paths Rises out NoMemory end only read long faulty = λ sources trees told within accepted none calm. end
+source_refused Ends holds limit paths Rises out (ReadFault file) end only read long faulty = λ sources trees told within accepted none calm. absurd (none_at Rises paths file none read.1)
+source_refused Ends holds limit paths Rises out (SourceTooLong s) end only read long faulty =
     λ sources trees told within accepted none calm. absurd (too_long_at holds limit paths sources s told within long.1)
-check_refused holds limit paths Rises out (Refused s fault) only read long faulty =
+source_refused Ends holds limit paths Rises out (Refused s fault) end only read long faulty =
     λ sources trees told within accepted none calm. absurd (refusal_not holds limit paths sources trees s fault told accepted faulty)
-check_refused holds limit paths Rises out (NotYet s k) only read long faulty = absurd only
-check_refused holds limit paths Rises out Ran only read long faulty = absurd only
-check_refused holds limit paths Rises out Checked only read long faulty = absurd only
-check_refused holds limit paths Rises out (Usage word) only read long faulty = absurd only
-check_refused holds limit paths Rises out (TooManySites word) only read long faulty = absurd only
-check_refused holds limit paths Rises out WriteFault only read long faulty = absurd only
+source_refused Ends holds limit paths Rises out Ran end only read long faulty = absurd only
+source_refused Ends holds limit paths Rises out Checked end only read long faulty = absurd only
+source_refused Ends holds limit paths Rises out Replayed end only read long faulty = absurd only
+source_refused Ends holds limit paths Rises out (Usage word) end only read long faulty = absurd only
+source_refused Ends holds limit paths Rises out (TooManySites word) end only read long faulty = absurd only
+source_refused Ends holds limit paths Rises out WriteFault end only read long faulty = absurd only
+source_refused Ends holds limit paths Rises out JournalTooLong end only read long faulty = absurd only
+source_refused Ends holds limit paths Rises out (BadJournal line) end only read long faulty = absurd only
+source_refused Ends holds limit paths Rises out (NotLegal entry) end only read long faulty = absurd only
+source_refused Ends holds limit paths Rises out (Unfinished thread) end only read long faulty = absurd only
+
+-- ---- a journal that is told
+
+-- trees of the same sources are the same
+pub same_trees : (sources : List (List ℕ)) (trees others : List Block) → AreAccepted sources trees → AreAccepted sources others → others ≡ trees
+same_trees [] [] [] a b = refl
+same_trees [] [] (o ∷ os) a b = absurd b
+same_trees [] (t ∷ ts) others a b = absurd a
+same_trees (s ∷ ss) [] others a b = absurd a
+same_trees (s ∷ ss) (t ∷ ts) [] a b = absurd b
+same_trees (s ∷ ss) (t ∷ ts) (o ∷ os) a b = same_cons o t os ts (one_tree a.0 b.0) (same_trees ss ts os a.1 b.1)
+  where
+    same_cons : (o t : Block) (os ts : List Block) → o ≡ t → os ≡ ts → o ∷ os ≡ t ∷ ts
+    same_cons o t os ts e f = cc
+    one_tree : ((tokens : List Token) × IsAccepted s tokens t) → ((tokens : List Token) × IsAccepted s tokens o) → o ≡ t
+    one_tree (tokens, is) (more, other) =
+        let same : more ≡ tokens = one_reading s more tokens other.reading is.reading in
+        same_tree tokens o t (subst (λ ts. Derives ts o) same other.derived) is.derived
+
+-- what holds of the journal that was read holds of the one that is told
+pub journal_told : (holds : List ℕ → Option (List ℕ)) (paths : List (List ℕ)) (from : List ℕ) (P : List BlockTree → List ℕ → Type 0) (sources : List (List ℕ)) (trees : List Block) (bytes : List ℕ)
+    → AreTold holds paths sources → AreAccepted sources trees → holds from ≡ Some bytes → WithJournal holds paths from P → P (map block_tree trees) bytes
+journal_told holds paths from P sources trees bytes told accepted held w =
+    let same : w.sources ≡ sources = same_sources holds SOURCE_LIMIT paths sources w.sources told w.held in
+    let those : w.trees ≡ trees = same_trees sources trees w.trees accepted (subst (λ ss. AreAccepted ss w.trees) same w.accepted) in
+    let it : w.bytes ≡ bytes = same_source (holds from) bytes w.bytes held w.told in
+    subst (λ bs. P (map block_tree trees) bs) it (subst (λ ts. P (map block_tree ts) w.bytes) those w.is_so)
+
+-- the journal's path is the last of all
+journal_rose : (Rises : List ℕ → Type 0) (paths : List (List ℕ)) (from : List ℕ) → NoneRose Rises (paths ++ from ∷ []) → NoneRose Rises paths
+journal_rose Rises [] from none = tt
+journal_rose Rises (p ∷ ps) from none = (none.0, journal_rose Rises ps from none.1)
+
+journal_short : (held : Option (List ℕ)) (bytes : List ℕ) → held ≡ Some bytes → length bytes ≤ JOURNAL_LIMIT → WhereTold held (λ xs. JOURNAL_LIMIT < length xs) → ⊥
+journal_short held bytes e short long = absurd (let over : JOURNAL_LIMIT < length bytes = subst (λ o. WhereTold o (λ xs. JOURNAL_LIMIT < length xs)) e long in omega (arith, over, short))
+
+-- a bad line, an entry that isn't legal and an able thread are in no journal that is read and over
+line_not : (bytes : List ℕ) (j : Journal) (line : ℕ) → journal_in bytes ≡ Ok j → journal_in bytes ≡ Err line → ⊥
+line_not bytes j line e f = ok_err (sym e ∙ f)
+  where
+    ok_err : Ok j ≡ Err line → ⊥
+    ok_err h = cc
+
+ok_same : (r : Result Journal ℕ) (a b : Journal) → r ≡ Ok a → r ≡ Ok b → b ≡ a
+ok_same r a b e f = cc
+
+some_none : (last : Config) → Some last ≡ None → ⊥
+some_none last h = cc
+
+true_false : true ≡ false → ⊥
+true_false h = cc
+
+illegal_not : (trees : List BlockTree) (bytes : List ℕ) (j : Journal) (last : Config) (entry : ℕ) → journal_in bytes ≡ Ok j → replay trees j.turns j.entries ≡ Some last → HasIllegal entry trees bytes → ⊥
+illegal_not trees bytes j last entry e replays (other, why, f, first) =
+    let same : other ≡ j = ok_same (journal_in bytes) j other e f in
+    let there : first_illegal trees j.turns j.entries ≡ Some (entry, why) = subst (λ (k : Journal). first_illegal trees k.turns k.entries ≡ Some (entry, why)) same first in
+    true_false (sym (ap is_some replays) ∙ (sym (illegal_or_replays trees j.turns j.entries) ∙ ap is_none there))
+
+able_not : (trees : List BlockTree) (bytes : List ℕ) (j : Journal) (last : Config) (thread : ℕ) → journal_in bytes ≡ Ok j → replay trees j.turns j.entries ≡ Some last → IsOver j.turns last
+    → LeavesAble thread trees bytes → ⊥
+able_not trees bytes j last thread e replays over (other, end, f, leads, able) =
+    let same : other ≡ j = ok_same (journal_in bytes) j other e f in
+    let there : replay trees j.turns j.entries ≡ Some end = subst (λ (k : Journal). replay trees k.turns k.entries ≡ Some end) same leads in
+    let is : Some end ≡ Some last = sym there ∙ replays in
+    let it : first_able j.turns last ≡ Some thread = subst (λ k. first_able j.turns k ≡ Some thread) (some_same end last is) (subst (λ (k : Journal). first_able k.turns end ≡ Some thread) same able) in
+    true_false (sym (first_able_law j.turns last thread it).0 ∙ over thread)
+  where
+    some_same : (a b : Config) → Some a ≡ Some b → a ≡ b
+    some_same a b h = cc
+
+pub replay_refused : (holds : List ℕ → Option (List ℕ)) (paths : List (List ℕ)) (from : List ℕ) (Rises : List ℕ → Type 0) (output_rose : Type 0) (cause : Cause) → ReplayRefusal holds Rises paths from cause
+    → ReplayCompletes holds paths from Rises output_rose cause
+replay_refused holds paths from Rises out NoMemory h = λ sources trees bytes j last told within accepted held short is_read replays over none calm. tt
+replay_refused holds paths from Rises out (ReadFault file) h =
+    λ sources trees bytes j last told within accepted held short is_read replays over none calm. absurd (none_at Rises (paths ++ from ∷ []) file none h.1)
+replay_refused holds paths from Rises out (SourceTooLong s) h =
+    λ sources trees bytes j last told within accepted held short is_read replays over none calm. absurd (too_long_at holds SOURCE_LIMIT paths sources s told within h.1)
+replay_refused holds paths from Rises out JournalTooLong h =
+    λ sources trees bytes j last told within accepted held short is_read replays over none calm. absurd (journal_short (holds from) bytes held short h.1)
+replay_refused holds paths from Rises out (Refused s fault) h =
+    λ sources trees bytes j last told within accepted held short is_read replays over none calm. absurd (refusal_not holds SOURCE_LIMIT paths sources trees s fault told accepted h)
+replay_refused holds paths from Rises out (BadJournal line) h =
+    λ sources trees bytes j last told within accepted held short is_read replays over none calm. absurd (line_not bytes j line is_read (journal_told holds paths from (HasBadLine line) sources trees bytes told accepted held h))
+replay_refused holds paths from Rises out (NotLegal entry) h =
+    λ sources trees bytes j last told within accepted held short is_read replays over none calm. absurd (illegal_not (map block_tree trees) bytes j last entry is_read replays (journal_told holds paths from (HasIllegal entry) sources trees bytes told accepted held h))
+replay_refused holds paths from Rises out (Unfinished thread) h =
+    λ sources trees bytes j last told within accepted held short is_read replays over none calm. absurd (able_not (map block_tree trees) bytes j last thread is_read replays over (journal_told holds paths from (LeavesAble thread) sources trees bytes told accepted held h))
+replay_refused holds paths from Rises out Ran h = absurd h
+replay_refused holds paths from Rises out Checked h = absurd h
+replay_refused holds paths from Rises out Replayed h = absurd h
+replay_refused holds paths from Rises out (Usage word) h = absurd h
+replay_refused holds paths from Rises out (TooManySites word) h = absurd h
+replay_refused holds paths from Rises out WriteFault h = absurd h

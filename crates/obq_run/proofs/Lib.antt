@@ -1,7 +1,7 @@
 pub mod Complete
-pub mod Refusals
 pub mod Held
-pub mod Printed
-pub mod PutHistory
-pub mod PutTexts
-pub mod RunRefusals
+pub mod Histories
+pub mod Refusals
+pub mod Replayed
+pub mod Taken
+pub mod Zipped

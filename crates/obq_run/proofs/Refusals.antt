@@ -18,10 +18,10 @@ use Rattle.obq_model.specs.Sources.{AreAccepted, IsFault, IsFirstRefused, here, 
 use Rattle.obq_model.specs.Syntax as syntax
 use Rattle.obq_model.specs.Tokens.{IsAscending}
 use Rattle.obq_run.specs.declared.ends.Cause.{Cause}
-use Rattle.obq_run.specs.declared.ends.Cause.TheVariants.{Checked, NoMemory, NotYet, Ran, ReadFault, Refused, SourceTooLong, TooManySites, Usage, WriteFault}
-use Rattle.obq_run.specs.Ends.{IfNotYet, IfReadFault, IfRefused, IfTooLong, IsCheckRefusal, IsRunRefusal}
+use Rattle.obq_run.specs.declared.ends.Cause.TheVariants.{BadJournal, Checked, JournalTooLong, NoMemory, NotLegal, Ran, ReadFault, Refused, Replayed, SourceTooLong, TooManySites, Unfinished, Usage, WriteFault}
+use Rattle.obq_run.specs.Ends.{IfReadFault, IfRefused, IfTooLong, IsSourceRefusal}
 use Rattle.obq_run.specs.Held.{AreHeld, AreTold, AreWithinLimit, IsFaultAt, IsFirstTooLong, IsTooLongAt}
-use Rattle.obq_run.specs.Runs.{IsNotYetOf, IsRefusalOf, NoneRose, RefusalCompletes, TooLongCompletes}
+use Rattle.obq_run.specs.Runs.{IsRefusalOf, NoneRose, RefusalCompletes, TooLongCompletes}
 use Rattle.obq_run.proofs.Complete.{none_at, not_faulty, not_refused, same_sources, same_tree, too_long_at}
 
 -- ---- one first fault
@@ -72,20 +72,23 @@ accepted_not : (holds : List ℕ → Option (List ℕ)) (limit : ℕ) (paths sou
 accepted_not holds limit paths sources others trees k fault told held accepted first =
     not_refused trees (subst (λ ss. AreAccepted ss trees) (same_sources holds limit paths sources others told held) accepted) first
 
-pub refusal_refused : (holds : List ℕ → Option (List ℕ)) (limit : ℕ) (paths : List (List ℕ)) (Rises : List ℕ → Type 0) (cause : Cause) → IsRunRefusal cause
+pub refusal_refused : (holds : List ℕ → Option (List ℕ)) (limit : ℕ) (paths : List (List ℕ)) (Rises : List ℕ → Type 0) (cause : Cause) → IsSourceRefusal cause
     → IfReadFault cause (IsFaultAt holds limit Rises paths) → IfTooLong cause (IsTooLongAt holds limit paths)
-    → IfRefused cause (IsRefusalOf holds limit paths) → IfNotYet cause (IsNotYetOf holds limit paths) → RefusalCompletes holds limit paths Rises cause
-refusal_refused holds limit paths Rises NoMemory only read long faulty yet = λ sources k fault told within first none. tt
-refusal_refused holds limit paths Rises (ReadFault file) only read long faulty yet = λ sources k fault told within first none. absurd (none_at Rises paths file none read.1)
-refusal_refused holds limit paths Rises (SourceTooLong s) only read long faulty yet = λ sources k fault told within first none. absurd (too_long_at holds limit paths sources s told within long.1)
-refusal_refused holds limit paths Rises (Refused s other) only read long faulty yet = λ sources k fault told within first none. same_refusal holds limit paths sources s k other fault told faulty first
-refusal_refused holds limit paths Rises (NotYet s t) only read long faulty yet =
-    λ sources k fault told within first none. absurd (accepted_not holds limit paths sources yet.sources yet.trees k fault told yet.held yet.accepted first)
-refusal_refused holds limit paths Rises Ran only read long faulty yet = absurd only
-refusal_refused holds limit paths Rises Checked only read long faulty yet = absurd only
-refusal_refused holds limit paths Rises (Usage word) only read long faulty yet = absurd only
-refusal_refused holds limit paths Rises (TooManySites word) only read long faulty yet = absurd only
-refusal_refused holds limit paths Rises WriteFault only read long faulty yet = absurd only
+    → IfRefused cause (IsRefusalOf holds limit paths) → RefusalCompletes holds limit paths Rises cause
+refusal_refused holds limit paths Rises NoMemory only read long faulty = λ sources k fault told within first none. tt
+refusal_refused holds limit paths Rises (ReadFault file) only read long faulty = λ sources k fault told within first none. absurd (none_at Rises paths file none read.1)
+refusal_refused holds limit paths Rises (SourceTooLong s) only read long faulty = λ sources k fault told within first none. absurd (too_long_at holds limit paths sources s told within long.1)
+refusal_refused holds limit paths Rises (Refused s other) only read long faulty = λ sources k fault told within first none. same_refusal holds limit paths sources s k other fault told faulty first
+refusal_refused holds limit paths Rises Ran only read long faulty = absurd only
+refusal_refused holds limit paths Rises Checked only read long faulty = absurd only
+refusal_refused holds limit paths Rises (Usage word) only read long faulty = absurd only
+refusal_refused holds limit paths Rises (TooManySites word) only read long faulty = absurd only
+refusal_refused holds limit paths Rises WriteFault only read long faulty = absurd only
+refusal_refused holds limit paths Rises Replayed only read long faulty = absurd only
+refusal_refused holds limit paths Rises JournalTooLong only read long faulty = absurd only
+refusal_refused holds limit paths Rises (BadJournal line) only read long faulty = absurd only
+refusal_refused holds limit paths Rises (NotLegal entry) only read long faulty = absurd only
+refusal_refused holds limit paths Rises (Unfinished thread) only read long faulty = absurd only
 
 pub refusal_finished : (holds : List ℕ → Option (List ℕ)) (limit : ℕ) (paths others : List (List ℕ)) (trees : List Block) (Rises : List ℕ → Type 0) (cause : Cause) → AreHeld holds limit paths others
     → AreAccepted others trees → RefusalCompletes holds limit paths Rises cause
@@ -154,46 +157,24 @@ same_long holds limit paths k s at long = elim (cases_order s k) as (λ _. s ≡
   ]
 ]
 
-pub too_long_refused : (holds : List ℕ → Option (List ℕ)) (limit : ℕ) (paths : List (List ℕ)) (Rises : List ℕ → Type 0) (cause : Cause) → IsRunRefusal cause
+pub too_long_refused : (holds : List ℕ → Option (List ℕ)) (limit : ℕ) (paths : List (List ℕ)) (Rises : List ℕ → Type 0) (cause : Cause) → IsSourceRefusal cause
     → IfReadFault cause (IsFaultAt holds limit Rises paths) → IfTooLong cause (IsTooLongAt holds limit paths)
-    → IfRefused cause (IsRefusalOf holds limit paths) → IfNotYet cause (IsNotYetOf holds limit paths) → TooLongCompletes holds limit paths Rises cause
-too_long_refused holds limit paths Rises NoMemory only read long faulty yet = λ k first none. tt
-too_long_refused holds limit paths Rises (ReadFault file) only read long faulty yet = λ k first none. absurd (fault_not holds limit paths Rises k file read first none)
-too_long_refused holds limit paths Rises (SourceTooLong s) only read long faulty yet = λ k first none. same_long holds limit paths k s long first
-too_long_refused holds limit paths Rises (Refused s fault) only read long faulty yet = λ k first none. absurd (held_not holds limit paths faulty.sources k faulty.held first)
-too_long_refused holds limit paths Rises (NotYet s t) only read long faulty yet = λ k first none. absurd (held_not holds limit paths yet.sources k yet.held first)
-too_long_refused holds limit paths Rises Ran only read long faulty yet = absurd only
-too_long_refused holds limit paths Rises Checked only read long faulty yet = absurd only
-too_long_refused holds limit paths Rises (Usage word) only read long faulty yet = absurd only
-too_long_refused holds limit paths Rises (TooManySites word) only read long faulty yet = absurd only
-too_long_refused holds limit paths Rises WriteFault only read long faulty yet = absurd only
+    → IfRefused cause (IsRefusalOf holds limit paths) → TooLongCompletes holds limit paths Rises cause
+too_long_refused holds limit paths Rises NoMemory only read long faulty = λ k first none. tt
+too_long_refused holds limit paths Rises (ReadFault file) only read long faulty = λ k first none. absurd (fault_not holds limit paths Rises k file read first none)
+too_long_refused holds limit paths Rises (SourceTooLong s) only read long faulty = λ k first none. same_long holds limit paths k s long first
+too_long_refused holds limit paths Rises (Refused s fault) only read long faulty = λ k first none. absurd (held_not holds limit paths faulty.sources k faulty.held first)
+too_long_refused holds limit paths Rises Ran only read long faulty = absurd only
+too_long_refused holds limit paths Rises Checked only read long faulty = absurd only
+too_long_refused holds limit paths Rises (Usage word) only read long faulty = absurd only
+too_long_refused holds limit paths Rises (TooManySites word) only read long faulty = absurd only
+too_long_refused holds limit paths Rises WriteFault only read long faulty = absurd only
+too_long_refused holds limit paths Rises Replayed only read long faulty = absurd only
+too_long_refused holds limit paths Rises JournalTooLong only read long faulty = absurd only
+too_long_refused holds limit paths Rises (BadJournal line) only read long faulty = absurd only
+too_long_refused holds limit paths Rises (NotLegal entry) only read long faulty = absurd only
+too_long_refused holds limit paths Rises (Unfinished thread) only read long faulty = absurd only
 
 pub too_long_finished : (holds : List ℕ → Option (List ℕ)) (limit : ℕ) (paths others : List (List ℕ)) (Rises : List ℕ → Type 0) (cause : Cause) → AreHeld holds limit paths others
     → TooLongCompletes holds limit paths Rises cause
 too_long_finished holds limit paths others Rises cause held = λ k first none. absurd (held_not holds limit paths others k held first)
-
--- ---- a refusal of a check is one of a run
-
-pub check_is_run : (cause : Cause) → IsCheckRefusal cause → IsRunRefusal cause
-check_is_run NoMemory only = tt
-check_is_run (ReadFault file) only = tt
-check_is_run (SourceTooLong s) only = tt
-check_is_run (Refused s fault) only = tt
-check_is_run (NotYet s t) only = absurd only
-check_is_run Ran only = absurd only
-check_is_run Checked only = absurd only
-check_is_run (Usage word) only = absurd only
-check_is_run (TooManySites word) only = absurd only
-check_is_run WriteFault only = absurd only
-
-pub never_not_yet : (cause : Cause) (P : ℕ → ℕ → Type 0) → IsCheckRefusal cause → IfNotYet cause P
-never_not_yet (NotYet s t) P only = absurd only
-never_not_yet NoMemory P only = tt
-never_not_yet (ReadFault file) P only = tt
-never_not_yet (SourceTooLong s) P only = tt
-never_not_yet (Refused s fault) P only = tt
-never_not_yet Ran P only = tt
-never_not_yet Checked P only = tt
-never_not_yet (Usage word) P only = tt
-never_not_yet (TooManySites word) P only = tt
-never_not_yet WriteFault P only = tt

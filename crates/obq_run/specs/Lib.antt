@@ -1,6 +1,4 @@
 pub mod Ends
 pub mod Held
-pub mod History
-pub mod Pieces
-pub mod PutTexts
+pub mod Played
 pub mod Runs

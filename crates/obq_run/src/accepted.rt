@@ -2,7 +2,7 @@
 
 ghost use Rattle.std.specs.Prelude.{◌≡◌, ◌<◌, ◌≤◌, IfErr, IfOk, List, length, ℕ};
 ghost use Rattle.obq_front.specs.Contents.{IsProgram, contents};
-ghost use Rattle.obq_run.specs.Ends.{IfReadFault, IfRefused, IfTooLong, IsCheckRefusal, refusal_cause, read_refusal_cause};
+ghost use Rattle.obq_run.specs.Ends.{IfReadFault, IfRefused, IfTooLong, IsSourceRefusal, refusal_cause, read_refusal_cause};
 ghost use Rattle.obq_run.specs.Held.{AreHeld, IsFaultAt, IsTooLongAt, PathRose};
 ghost use Rattle.obq_run.specs.Runs.{IsRefusalOf};
 ghost use Rattle.obq_words.specs.Words.{paths_of};
@@ -16,7 +16,7 @@ use obq_words::SiteWord;
 use std::alloc::Global;
 
 /// The cause where a file wasn't read.
-fn cause_of(refused: SourcesRefused) -> Cause
+pub fn cause_of(refused: SourcesRefused) -> Cause
     ensures { result ≡ read_refusal_cause refused }
 {
     match refused.why {
@@ -29,7 +29,7 @@ fn cause_of(refused: SourcesRefused) -> Cause
 }
 
 /// The cause where sources aren't accepted.
-fn cause_of_refusal(refused: FrontRefused) -> Cause
+pub fn cause_of_refusal(refused: FrontRefused) -> Cause
     ensures { result ≡ refusal_cause refused }
 {
     match refused {
@@ -55,7 +55,7 @@ pub fn accepted_sources<F: Files>(
     ensures same { (n : List ℕ) → F.holds files.new n ≡ F.holds files.old n }
     ensures held { IfOk result (λ accepted. AreHeld (F.holds files.old) SOURCE_LIMIT (paths_of sites.now) (contents accepted.sources.items)) }
     ensures program { IfOk result (λ accepted. IsProgram accepted.sources.items accepted.program) }
-    ensures only { IfErr result IsCheckRefusal }
+    ensures only { IfErr result IsSourceRefusal }
     ensures read_fault { IfErr result (λ cause. IfReadFault cause (IsFaultAt (F.holds files.old) SOURCE_LIMIT (PathRose (F.faults files.old) (F.faults files.new)) (paths_of sites.now))) }
     ensures too_long { IfErr result (λ cause. IfTooLong cause (IsTooLongAt (F.holds files.old) SOURCE_LIMIT (paths_of sites.now))) }
     ensures refused { IfErr result (λ cause. IfRefused cause (IsRefusalOf (F.holds files.old) SOURCE_LIMIT (paths_of sites.now))) }

@@ -5,14 +5,14 @@ ghost use Rattle.std.specs.Io.KnownBytes.{Appends};
 ghost use Rattle.obq_io.specs.Causes.{Rose};
 ghost use Rattle.obq_io.specs.Known.{GetsPrefix};
 ghost use Rattle.obq_model.specs.Output.{check_text};
-ghost use Rattle.obq_run.specs.Ends.{GetsLine, IfReadFault, IfRefused, IfTooLong, IsCheckEnd, IsCheckFinish, IsCheckRefusal, IsRefusal, OnChecked, OnWriteFault, line_of, status_of};
+ghost use Rattle.obq_run.specs.Ends.{GetsLine, IfReadFault, IfRefused, IfTooLong, IsCheckEnd, IsCheckFinish, HasStatus, IsRefusal, IsSourceRefusal, OnChecked, OnWriteFault, line_of};
 ghost use Rattle.obq_run.specs.Held.{IsFaultAt, IsTooLongAt, PathRose};
 ghost use Rattle.obq_run.specs.Runs.{CheckCompletes, IsCheckOf, IsRefusalOf, RefusalCompletes, TooLongCompletes};
 ghost use Rattle.obq_words.specs.Words.{AreInForm, names_of, paths_of};
 
 use crate::accepted::accepted_sources;
 use crate::ends::{Cause, End, status_for};
-use crate::run::refuse;
+use crate::finish::refuse;
 use crate::texts::{write_cause, write_checked};
 use obq_base::limits::SOURCE_LIMIT;
 use obq_io::{Files, Sink};
@@ -25,7 +25,7 @@ fn check_files<F: Files>(alloc: Global, files: &mut F, sites: &[SiteWord]) -> Re
     requires { length sites.now ≤ 16 }
     ensures same { (n : List ℕ) → F.holds files.new n ≡ F.holds files.old n }
     ensures accepted { OnOk result (IsCheckOf (F.holds files.old) SOURCE_LIMIT (paths_of sites.now)) }
-    ensures only { IfErr result IsCheckRefusal }
+    ensures only { IfErr result IsSourceRefusal }
     ensures read_fault { IfErr result (λ cause. IfReadFault cause (IsFaultAt (F.holds files.old) SOURCE_LIMIT (PathRose (F.faults files.old) (F.faults files.new)) (paths_of sites.now))) }
     ensures too_long { IfErr result (λ cause. IfTooLong cause (IsTooLongAt (F.holds files.old) SOURCE_LIMIT (paths_of sites.now))) }
     ensures refused { IfErr result (λ cause. IfRefused cause (IsRefusalOf (F.holds files.old) SOURCE_LIMIT (paths_of sites.now))) }
@@ -43,7 +43,7 @@ fn finish<O: Sink, E: Sink>(alloc: Global, out: &mut O, err: &mut E, sites: &[Si
     ensures part { OnWriteFault result.cause (GetsPrefix (O.written out.old) (O.written out.new) (check_text (names_of sites.now))) }
     ensures write_fault { OnWriteFault result.cause (Rose (O.faults out.old) (O.faults out.new)) }
     ensures only { IsCheckFinish result.cause }
-    ensures status { result.status ≡ status_of result.cause }
+    ensures status { HasStatus result.cause result.status }
     ensures told { GetsLine (E.written err.old) (E.written err.new) (Rose (E.faults err.old) (E.faults err.new)) (line_of (names_of sites.now) result.cause) }
     ensures quiet { OnChecked result.cause (err.new ≡ err.old) }
 {
@@ -84,7 +84,7 @@ pub fn check_sources<F: Files, O: Sink, E: Sink>(
         × Appends (O.written out.old) (O.written out.new) (check_text (names_of sites.now))) }
     ensures part { OnWriteFault result.cause (IsCheckOf (F.holds files.old) SOURCE_LIMIT (paths_of sites.now)
         × GetsPrefix (O.written out.old) (O.written out.new) (check_text (names_of sites.now))) }
-    ensures status { result.status ≡ status_of result.cause }
+    ensures status { HasStatus result.cause result.status }
     ensures completes { CheckCompletes (F.holds files.old) SOURCE_LIMIT (paths_of sites.now) (PathRose (F.faults files.old) (F.faults files.new)) (Rose (O.faults out.old) (O.faults out.new)) result.cause }
     ensures completes_refused { RefusalCompletes (F.holds files.old) SOURCE_LIMIT (paths_of sites.now) (PathRose (F.faults files.old) (F.faults files.new)) result.cause }
     ensures completes_too_long { TooLongCompletes (F.holds files.old) SOURCE_LIMIT (paths_of sites.now) (PathRose (F.faults files.old) (F.faults files.new)) result.cause }

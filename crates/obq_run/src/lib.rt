@@ -1,13 +1,15 @@
-//! The call that the program makes: it reads the command line and the sources, runs or examines
-//! them, and writes what the run wrote, or that they are accepted, or why not.
+//! The call that the program makes: it reads the command line and the sources, runs, examines or
+//! replays them, and writes what the run wrote, or that they are accepted, or why not.
 #![tactic(auto)]
 
 mod accepted;
 mod check;
 mod ends;
-mod history;
-mod put_texts;
+mod finish;
+mod playing;
 mod reading;
+mod replay;
+mod replaying;
 mod run;
 mod texts;
 mod top;
@@ -16,4 +18,5 @@ pub use check::check_sources;
 pub use ends::{Cause, End};
 pub use obq_base::{Entry, SourceFault};
 pub use obq_journal::Journal;
+pub use replay::replay_run;
 pub use top::obliq;

@@ -49,6 +49,7 @@ pub fn read_sources<F: Files>(
 ) -> Result<Vec<Source>, SourcesRefused>
     requires { length sites.now ≤ 16 }
     ensures same { (n : List ℕ) → F.holds files.new n ≡ F.holds files.old n }
+    ensures later { (n : List ℕ) → F.faults files.old n ≤ F.faults files.new n }
     ensures held { IfOk result (λ sources. AreHeld (F.holds files.old) SOURCE_LIMIT (paths_of sites.now) (front.contents sources.items)) }
     ensures named { IfOk result (λ sources. front.names_of sources.items ≡ names_of sites.now) }
     ensures unread { IfErr result (λ s. MatchReadRefused s.why (IsFaultAt (F.holds files.old) SOURCE_LIMIT (PathRose (F.faults files.old) (F.faults files.new)) (paths_of sites.now) s.file) (IsTooLongAt (F.holds files.old) SOURCE_LIMIT (paths_of sites.now) s.file)) }

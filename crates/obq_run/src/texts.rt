@@ -1,19 +1,23 @@
 //! The texts that a call writes. Numbers are written from a buffer on the stack, so no call here
 //! takes memory.
 
-ghost use Rattle.std.specs.Prelude.{◌≡◌, ◌∷◌, [], OnOk, slice_index_or};
+ghost use Rattle.std.specs.Prelude.{◌≡◌, ◌≤◌, [], OnOk, length, slice_index_or};
 ghost use Rattle.std.specs.Io.KnownBytes.{Appends};
+ghost use Rattle.std.specs.List.{zip};
 ghost use Rattle.obq_io.specs.Causes.{HasCause};
 ghost use Rattle.obq_io.specs.Known.{GetsPrefix};
-ghost use Rattle.obq_model.specs.Output.{check_text, kind_text, lexical_line, ok_line, refused_line, report_line, run_text, site_text, syntax_line, unbound_line};
+ghost use Rattle.obq_model.specs.Output.{check_text, kind_text, lexical_line, ok_line, refused_line, report_line, site_text, syntax_line, unbound_line};
+ghost use Rattle.obq_model.specs.Replay.{output};
 ghost use Rattle.obq_run.specs.Ends.{line_of};
+ghost use Rattle.obq_run.specs.Played.{output_text, sites_text};
 ghost use Rattle.obq_words.specs.Words.{names_of};
 
 use crate::ends::Cause;
 use itoa::Buffer;
 use obq_base::{LexKind, Report, SourceFault};
 use obq_ends::report_line;
-use obq_io::{Failed, Sink, write_pieces};
+use obq_io::{Failed, Sink, write_pieces, write_text};
+use obq_plain::PlainRun;
 use obq_words::SiteWord;
 
 /// Writes what a site of this name wrote.
@@ -39,19 +43,42 @@ fn write_report<S: Sink>(out: &mut S, report: Report) -> Result<(), Failed>
     report_line(report).write_to(out)
 }
 
-/// Writes the output of a run at one site.
-pub fn write_run<S: Sink>(
+/// Writes what each site wrote.
+fn write_sites<S: Sink>(
     out: &mut S,
-    name: &[u8],
-    bytes: &[u8],
-    report: Report,
+    sites: &[SiteWord],
+    machine: &PlainRun,
 ) -> Result<(), Failed>
-    ensures whole { OnOk result (Appends (S.written out.old) (S.written out.new) (run_text ((name.now, bytes.now) ∷ []) report)) }
-    ensures prefix { GetsPrefix (S.written out.old) (S.written out.new) (run_text ((name.now, bytes.now) ∷ []) report) }
+    requires { length sites.now ≤ 16 }
+    ensures whole { OnOk result (Appends (S.written out.old) (S.written out.new) (sites_text (zip (names_of sites.now) (output machine.now.sites machine.now.config)))) }
+    ensures prefix { GetsPrefix (S.written out.old) (S.written out.new) (sites_text (zip (names_of sites.now) (output machine.now.sites machine.now.config))) }
     ensures cause { HasCause (S.faults out.old) (S.faults out.new) result }
 {
-    write_site(out, name, bytes)?;
-    write_report(out, report)
+    for (k, site) in sites.iter().enumerate() {
+        match machine.output(k as u16) {
+            Some(bytes) => write_site(out, site.name.as_bytes(), bytes)?,
+            None => return Ok(()),
+        }
+    }
+    Ok(())
+}
+
+/// Writes the output of a run: each site in order, the threads, and the text of the journal where it
+/// is asked for.
+pub fn write_output<S: Sink>(
+    out: &mut S,
+    sites: &[SiteWord],
+    machine: &PlainRun,
+    journal: &[u8],
+) -> Result<(), Failed>
+    requires { length sites.now ≤ 16 }
+    ensures whole { OnOk result (Appends (S.written out.old) (S.written out.new) (output_text (names_of sites.now) machine.now journal.now)) }
+    ensures prefix { GetsPrefix (S.written out.old) (S.written out.new) (output_text (names_of sites.now) machine.now journal.now) }
+    ensures cause { HasCause (S.faults out.old) (S.faults out.new) result }
+{
+    write_sites(out, sites, machine)?;
+    write_report(out, machine.report())?;
+    write_text(out, journal)
 }
 
 /// Writes that the source of a site is accepted.
@@ -165,8 +192,7 @@ pub fn write_cause<S: Sink>(err: &mut S, sites: &[SiteWord], cause: &Cause) -> R
 {
     let mut number = Buffer::new();
     match cause {
-        Cause::Ran => Ok(()),
-        Cause::Checked => Ok(()),
+        Cause::Ran | Cause::Checked | Cause::Replayed => Ok(()),
         Cause::Usage { word } => {
             let word = number.format(*word).as_bytes();
             write_pieces(err, &[b"usage: word ", word, b"\n"])
@@ -179,17 +205,25 @@ pub fn write_cause<S: Sink>(err: &mut S, sites: &[SiteWord], cause: &Cause) -> R
             let name = name_at(sites, *source);
             write_pieces(err, &[name, b": source too long", b"\n"])
         }
+        Cause::JournalTooLong => write_pieces(err, &[b"journal too long", b"\n"]),
         Cause::Refused { source, fault } => write_refused(err, name_at(sites, *source), fault),
-        Cause::NotYet { source, token } => {
-            let name = name_at(sites, *source);
-            let token = number.format(*token).as_bytes();
-            write_pieces(err, &[name, b": not yet at token ", token, b"\n"])
-        }
         Cause::ReadFault { file } => {
             let file = number.format(*file).as_bytes();
             write_pieces(err, &[b"read fault at file ", file, b"\n"])
         }
         Cause::WriteFault => write_pieces(err, &[b"write fault", b"\n"]),
+        Cause::BadJournal { line } => {
+            let line = number.format(*line).as_bytes();
+            write_pieces(err, &[b"journal line ", line, b"\n"])
+        }
+        Cause::NotLegal { entry } => {
+            let entry = number.format(*entry).as_bytes();
+            write_pieces(err, &[b"journal entry ", entry, b" not legal", b"\n"])
+        }
+        Cause::Unfinished { thread } => {
+            let thread = number.format(*thread).as_bytes();
+            write_pieces(err, &[b"journal stops before thread ", thread, b"\n"])
+        }
         Cause::NoMemory => write_pieces(err, &[b"no memory", b"\n"]),
     }
 }

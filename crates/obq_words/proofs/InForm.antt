@@ -6,7 +6,7 @@ use Rattle.std.proofs.lemmas.List.Folds.{list_all-append}
 use Rattle.std.proofs.lemmas.Map.Keys.{IsDistinct-push}
 use Rattle.std.proofs.lemmas.Cmp.{nat_list_eq_equiv}
 use Rattle.std.specs.List.{IsDistinct, list_all, list_any}
-use Rattle.obq_words.specs.CommandLine.{UsageAt, WordFault, bad_behind_sites, bad_word, is_command, is_site_name, name_part}
+use Rattle.obq_words.specs.CommandLine.{BadAt, RunWords, Sites, UsageAt, WordFault, bad_behind_replay, bad_behind_sites, bad_in_run, bad_sites, bad_word, behind_path, behind_run, is_check, is_from, is_replay, is_run, is_site_name, name_part, sites_in}
 use Rattle.obq_model.specs.Put.{among}
 use Rattle.obq_words.specs.declared.words.SiteWord.{SiteWord}
 use Rattle.obq_words.specs.Words.{AreInForm, AreSites, given_names, names_in}
@@ -71,18 +71,44 @@ no_names : AreNames []
 unfolding IsDistinct
 no_names = record { most = omega arith; named = refl; different = tt }
 
-given : (words : List (List ℕ)) → bad_word words ≡ None → (1 ≤ length (given_names words)) × AreNames (given_names words)
-given [] e = absurd cc
-given (c ∷ []) e = absurd (fault_no _ (first_chosen (is_command c) (Some (UsageAt 1)) (UsageAt 0) e).1)
-given (c ∷ s ∷ words) e = (omega arith, all_names 1 [] (s ∷ words) (first_chosen _ _ _ e).1 no_names)
+-- names of 1 to 16 sites
+record AreSome (names : List (List ℕ)) : Type 0 where
+  some : 1 ≤ length names
+  are : AreNames names
+
+some_sites : (k : ℕ) (words : List (List ℕ)) → bad_sites k words ≡ None → AreSome (names_in words)
+some_sites k [] e = absurd (fault_no _ e)
+some_sites k (s ∷ words) e = record { some = omega arith; are = all_names k [] (s ∷ words) e no_names }
+
+behind_options : (read : RunWords) → bad_in_run read ≡ None → AreSome (names_in (sites_in read))
+behind_options (Sites options k words) e = some_sites k words e
+behind_options (BadAt k) e = absurd (fault_no _ e)
+
+behind_journal : (words : List (List ℕ)) → bad_behind_replay words ≡ None → AreSome (names_in (behind_path words))
+behind_journal [] e = absurd (fault_no _ e)
+behind_journal (word ∷ []) e = absurd (fault_no _ (first_chosen (is_from word) (Some (UsageAt 2)) _ e).1)
+behind_journal (word ∷ path ∷ words) e = some_sites 3 words (second_chosen _ _ _ (first_chosen _ _ _ e).1).1
+
+-- the sites by which command it is
+behind : (run check replay : Bool) (words : List (List ℕ))
+    → cond run (bad_in_run (behind_run words)) (cond check (bad_sites 1 words) (cond replay (bad_behind_replay words) (Some (UsageAt 0)))) ≡ None
+    → AreSome (names_in (cond run (sites_in (behind_run words)) (cond check words (behind_path words))))
+behind true check replay words e = behind_options (behind_run words) e
+behind false true replay words e = some_sites 1 words e
+behind false false true words e = behind_journal words e
+behind false false false words e = absurd (fault_no _ e)
+
+given : (words : List (List ℕ)) → bad_word words ≡ None → AreSome (given_names words)
+given [] e = absurd (fault_no _ e)
+given (c ∷ words) e = behind (is_run c) (is_check c) (is_replay c) words e
 
 pub in_form : (words : List (List ℕ)) (sites : List SiteWord) → bad_word words ≡ None → AreSites words sites → AreInForm sites
 in_form words sites good are =
     let names = given words good in
     let same : length sites ≡ length (given_names words) = sym (length-map sites (λ s. s.name)) ∙ ap length are.names in
     record {
-      some = omega (arith, same, names.0);
-      most = omega (arith, same, names.1.most);
-      named = rw are.names names.1.named;
-      different = rw are.names names.1.different;
+      some = omega (arith, same, names.some);
+      most = omega (arith, same, names.are.most);
+      named = rw are.names names.are.named;
+      different = rw are.names names.are.different;
     }

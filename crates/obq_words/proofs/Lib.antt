@@ -1,1 +1,4 @@
 pub mod InForm
+pub mod Numbers
+mod Rows
+pub mod Turns

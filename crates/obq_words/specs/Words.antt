@@ -1,11 +1,12 @@
 -- The words of the command line as bytes, and their sites.
-use Rattle.std.specs.Prelude.{Err, List, None, Ok, Option, Result, Some, String, bytes_eq, false, length, map, true, ℕ, ◌≡◌, ◌≤◌}
+use Rattle.std.specs.Prelude.{Err, List, None, Ok, Option, Result, Some, String, Vec, bytes_eq, false, length, map, true, ℕ, ◌≡◌, ◌≤◌}
 use Rattle.std.specs.List.{IsDistinct, list_all}
 use Rattle.std.specs.declared.alloc.Global.{Global}
 use Rattle.std.specs.String.{string_bytes}
-use Rattle.obq_words.specs.CommandLine.{TooManyAt, UsageAt, WordFault, bad_word, is_checking, is_site_name, name_part, path_part, site_words}
+use Rattle.obq_words.specs.CommandLine.{BadAt, RunWords, Sites, TooManyAt, UsageAt, WordFault, bad_sites, bad_word, is_checking, is_replaying, is_site_name, journal_path, name_part, path_part, site_words, turns_of, wants_journal}
+use Rattle.obq_words.specs.declared.options.OptionsRead.{OptionsRead}
 use Rattle.obq_words.specs.declared.words.Order.{Order}
-use Rattle.obq_words.specs.declared.words.Order.TheVariants.{Check, Run}
+use Rattle.obq_words.specs.declared.words.Order.TheVariants.{Check, Replay, Run}
 use Rattle.obq_words.specs.declared.words.SiteWord.{SiteWord}
 use Rattle.obq_words.specs.declared.words.WordsRefused.{WordsRefused}
 use Rattle.obq_words.specs.declared.words.WordsRefused.TheVariants.{NoMemory, TooManySites, Usage}
@@ -46,16 +47,35 @@ pub record AreInForm (sites : List SiteWord) : Type 0 where
   pub named : list_all is_site_name (names_of sites) ≡ true
   pub different : IsDistinct bytes_eq (names_of sites)
 
--- a refusal that tells this fault, and not that memory was wanting
+-- a refusal that tells this fault, or memory was wanting where there is none
 abbrev pub Tells : Option WordFault → WordsRefused → Type 0
 Tells fault (Usage word) = fault ≡ Some (UsageAt word)
 Tells fault (TooManySites word) = fault ≡ Some (TooManyAt word)
-Tells fault NoMemory = ⊥
+Tells fault NoMemory = fault ≡ None
 
--- what reading the words answers: the command and its sites, or exactly the first word that can't stand
+-- a refusal that tells this fault, and not that memory was wanting
+abbrev pub TellsWord : Option WordFault → WordsRefused → Type 0
+TellsWord fault (Usage word) = fault ≡ Some (UsageAt word)
+TellsWord fault (TooManySites word) = fault ≡ Some (TooManyAt word)
+TellsWord fault NoMemory = ⊥
+
+-- the sites of words that begin at word k, or the first that can't stand
+abbrev pub GivesSites : ℕ → List (List ℕ) → Result (Vec SiteWord Global) WordsRefused → Type 0
+GivesSites k words (Ok sites) = (bad_sites k words ≡ None) × (names_of sites.items ≡ names_in words) × (paths_of sites.items ≡ paths_in words)
+GivesSites k words (Err refused) = Tells (bad_sites k words) refused
+
+-- what the words behind `run` come to: the options and the words behind them, or the word that can't stand
+abbrev pub ReadsOptions : RunWords → Result OptionsRead ℕ → Type 0
+ReadsOptions words (Ok read) = words ≡ Sites read.options read.place (bytes_of read.words.now)
+ReadsOptions words (Err word) = words ≡ BadAt word
+
+-- what reading the words answers: the command with what stood behind it, or exactly the first word that can't stand
 abbrev pub Answers : List (List ℕ) → Result Order WordsRefused → Type 0
-Answers words (Ok (Run sites)) = (bad_word words ≡ None) × (is_checking words ≡ false) × AreSites words sites.items
-Answers words (Ok (Check sites)) = (bad_word words ≡ None) × (is_checking words ≡ true) × AreSites words sites.items
-Answers words (Err (Usage word)) = bad_word words ≡ Some (UsageAt word)
-Answers words (Err (TooManySites word)) = bad_word words ≡ Some (TooManyAt word)
-Answers words (Err NoMemory) = bad_word words ≡ None
+Answers words (Ok (Run turns journal sites)) =
+    (bad_word words ≡ None) × (is_checking words ≡ false) × (is_replaying words ≡ false) × (turns ≡ turns_of words) × (journal ≡ wants_journal words)
+    × AreSites words sites.items
+Answers words (Ok (Check sites)) = (bad_word words ≡ None) × (is_checking words ≡ true) × AreSites words sites.items × (is_replaying words ≡ false)
+Answers words (Ok (Replay from sites)) =
+    (bad_word words ≡ None) × (is_checking words ≡ false) × (is_replaying words ≡ true) × (string_bytes from ≡ journal_path words)
+    × AreSites words sites.items
+Answers words (Err refused) = Tells (bad_word words) refused

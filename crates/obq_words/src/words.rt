@@ -1,16 +1,13 @@
 //! The words of the command line.
 
-ghost use Rattle.std.specs.Prelude.{◌≡◌, ◌&&◌, IfOk, MatchResult, None, not, string_bytes};
-ghost use Rattle.std.specs.List.{list_all};
-ghost use Rattle.obq_words.specs.CommandLine.{bad_behind_command, is_name_byte, is_site_name, is_site_word, name_part, path_part};
-ghost use Rattle.obq_model.specs.Put.{among};
-ghost use Rattle.obq_words.specs.Words.{Answers, Tells, bytes_of, names_in, names_of, paths_in, paths_of};
+ghost use Rattle.std.specs.Prelude.{◌∷◌, codes};
+ghost use Rattle.obq_words.specs.Words.{Answers, bytes_of};
 
-use obq_base::{Name, NoMemory};
+use crate::options::{RunOptions, read_options};
+use crate::sites::read_sites;
+use obq_base::Name;
+use obq_base::limits::DEFAULT_TURNS;
 use std::alloc::Global;
-
-/// How many sites a command line may give.
-const MOST_SITES: usize = 16;
 
 /// A site's name and the path of its source.
 #[derive(Drop)]
@@ -22,8 +19,22 @@ pub struct SiteWord {
 /// What a command line asks for.
 #[derive(Drop)]
 pub enum Order {
-    Run { sites: Vec<SiteWord> },
-    Check { sites: Vec<SiteWord> },
+    /// Runs the sources with so many turns for each thread, and prints the journal too where it is
+    /// wanted.
+    Run {
+        turns: u32,
+        journal: bool,
+        sites: Vec<SiteWord>,
+    },
+    /// Examines the sources.
+    Check {
+        sites: Vec<SiteWord>,
+    },
+    /// Goes over the journal in the file `from` again.
+    Replay {
+        from: String,
+        sites: Vec<SiteWord>,
+    },
 }
 
 /// Why a command line gives no order. A word's number counts from the command, which is word 0.
@@ -36,106 +47,56 @@ pub enum WordsRefused {
     NoMemory,
 }
 
-fn is_name_byte(byte: u8) -> bool
-    ensures { result ≡ is_name_byte byte }
+/// What the words behind `run` ask for.
+fn read_run(alloc: Global, words: &[String]) -> Result<Order, WordsRefused>
+    ensures { Answers (codes "run" ∷ bytes_of words.now) result }
 {
-    byte.is_ascii_alphanumeric() || byte == b'_'
-}
-
-fn are_name_bytes(bytes: &[u8]) -> bool
-    ensures { result ≡ list_all is_name_byte bytes.now }
-{
-    bytes.iter().all(|b| is_name_byte(*b))
-}
-
-fn is_site_name(name: &[u8]) -> bool
-    ensures { result ≡ is_site_name name.now }
-{
-    match name {
-        [] => false,
-        [first, more @ ..] => {
-            if !first.is_ascii_alphabetic() || !are_name_bytes(more) {
-                return false;
-            }
-            more.len() <= 31
-        }
-    }
-}
-
-/// What stands before and behind the first `=`; the whole word and nothing where there is none.
-fn cut(word: &str) -> (&str, &str)
-    ensures name { result.0.now ≡ name_part word.now }
-    ensures path { result.1.now ≡ path_part word.now }
-{
-    match word.split_once('=') {
-        None => (word, ""),
-        Some(parts) => parts,
-    }
-}
-
-fn is_site_word(word: &str) -> bool
-    ensures { result ≡ is_site_word word.now }
-{
-    match word.split_once('=') {
-        None => false,
-        Some((name, path)) => is_site_name(name.as_bytes()) && !path.is_empty(),
-    }
-}
-
-/// Whether one of these words begins with the name.
-fn is_given(name: &str, words: &[String]) -> bool
-    ensures { result ≡ among name.now (names_in (bytes_of words.now)) }
-{
-    words.iter().any(|word| name == cut(word.as_str()).0)
-}
-
-/// Whether this is a site word whose name none of the earlier ones gave.
-fn can_stand(word: &str, earlier: &[String]) -> bool
-    ensures { result ≡ (is_site_word word.now && not (among (name_part word.now) (names_in (bytes_of earlier.now)))) }
-{
-    is_site_word(word) && !is_given(cut(word).0, earlier)
-}
-
-/// Finds the first of the words behind the command that can't stand in its place.
-fn check_sites(words: &[String]) -> Result<(), WordsRefused>
-    ensures { MatchResult result (λ _. bad_behind_command (bytes_of words.now) ≡ None) (λ refused. Tells (bad_behind_command (bytes_of words.now)) refused) }
-{
-    if words.is_empty() {
-        return Err(WordsRefused::Usage { word: 1 });
-    }
-    for (i, word) in words.iter().enumerate() {
-        if !can_stand(word.as_str(), &words[..i]) {
-            return Err(WordsRefused::Usage { word: i as u32 + 1 });
-        }
-        if i == MOST_SITES {
-            return Err(WordsRefused::TooManySites { word: i as u32 + 1 });
-        }
-    }
-    Ok(())
-}
-
-/// The site of one word.
-fn read_site(alloc: Global, word: &str) -> Result<SiteWord, NoMemory>
-    ensures name { IfOk result (λ site. site.name ≡ name_part word.now) }
-    ensures path { IfOk result (λ site. string_bytes site.path ≡ path_part word.now) }
-{
-    let (name, path) = cut(word);
-    Ok(SiteWord {
-        name: Name::new(Vec::from_slice(alloc, name.as_bytes())?),
-        path: String::from_str(alloc, path)?,
+    let none = RunOptions {
+        turns: None,
+        journal: false,
+    };
+    let read = match read_options(none, 1, words) {
+        Ok(read) => read,
+        Err(word) => return Err(WordsRefused::Usage { word }),
+    };
+    let sites = read_sites(alloc, read.place, read.words)?;
+    Ok(Order::Run {
+        turns: read.options.turns.unwrap_or(DEFAULT_TURNS),
+        journal: read.options.journal,
+        sites,
     })
 }
 
-/// The sites of the words behind the command, in order.
-fn read_sites(alloc: Global, words: &[String]) -> Result<Vec<SiteWord>, NoMemory>
-    ensures names { IfOk result (λ sites. names_of sites.items ≡ names_in (bytes_of words.now)) }
-    ensures paths { IfOk result (λ sites. paths_of sites.items ≡ paths_in (bytes_of words.now)) }
+/// What the words behind `check` ask for.
+fn read_check(alloc: Global, words: &[String]) -> Result<Order, WordsRefused>
+    ensures { Answers (codes "check" ∷ bytes_of words.now) result }
 {
-    let mut sites = Vec::new(alloc);
-    for word in words {
-        sites.push(read_site(alloc, word.as_str())?)?;
+    Ok(Order::Check {
+        sites: read_sites(alloc, 1, words)?,
+    })
+}
+
+/// What the words behind `replay` ask for.
+fn read_replay(alloc: Global, words: &[String]) -> Result<Order, WordsRefused>
+    ensures { Answers (codes "replay" ∷ bytes_of words.now) result }
+{
+    let [option, more @ ..] = words else {
+        return Err(WordsRefused::Usage { word: 1 });
+    };
+    if option.as_str() != "--from" {
+        return Err(WordsRefused::Usage { word: 1 });
     }
-    Ok(sites)
+    let [path, site_words @ ..] = more else {
+        return Err(WordsRefused::Usage { word: 2 });
+    };
+    if path.is_empty() {
+        return Err(WordsRefused::Usage { word: 2 });
+    }
+    let sites = read_sites(alloc, 3, site_words)?;
+    match String::from_str(alloc, path.as_str()) {
+        Ok(from) => Ok(Order::Replay { from, sites }),
+        Err(_) => Err(WordsRefused::NoMemory),
+    }
 }
 
 /// What a command line asks for, or the first word that can't stand in its place. Memory is taken
@@ -143,21 +104,13 @@ fn read_sites(alloc: Global, words: &[String]) -> Result<Vec<SiteWord>, NoMemory
 pub fn read_words(alloc: Global, words: &[String]) -> Result<Order, WordsRefused>
     ensures { Answers (bytes_of words.now) result }
 {
-    let [command, site_words @ ..] = words else {
+    let [command, more @ ..] = words else {
         return Err(WordsRefused::Usage { word: 0 });
     };
-    let checking = command.as_str() == "check";
-    if !checking && command.as_str() != "run" {
-        return Err(WordsRefused::Usage { word: 0 });
+    match command.as_str() {
+        "run" => read_run(alloc, more),
+        "check" => read_check(alloc, more),
+        "replay" => read_replay(alloc, more),
+        _ => Err(WordsRefused::Usage { word: 0 }),
     }
-    if let Err(refused) = check_sites(site_words) {
-        return Err(refused);
-    }
-    let Ok(sites) = read_sites(alloc, site_words) else {
-        return Err(WordsRefused::NoMemory);
-    };
-    if checking {
-        return Ok(Order::Check { sites });
-    }
-    Ok(Order::Run { sites })
 }

@@ -1,0 +1,11 @@
+pub mod Allowed
+pub mod Asking
+pub mod Edges
+pub mod Fitting
+pub mod Forms
+pub mod Leaving
+pub mod Replies
+pub mod Requests
+pub mod Seen
+pub mod SeenActs
+pub mod Threads

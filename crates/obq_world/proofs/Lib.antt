@@ -1,0 +1,9 @@
+mod Plain
+mod Reading
+mod Keeps
+mod May
+mod Idle
+mod Installs
+mod Commits
+mod Counting
+mod Reported

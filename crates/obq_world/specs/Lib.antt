@@ -1,0 +1,7 @@
+pub mod Meaning
+pub mod Acts
+pub mod Work
+pub mod State
+pub mod Entries
+pub mod Calls
+pub mod Reports
