@@ -127,6 +127,7 @@ same_trees (s ∷ ss) (t ∷ ts) (o ∷ os) a b = same_cons o t os ts (one_tree 
   where
     same_cons : (o t : Block) (os ts : List Block) → o ≡ t → os ≡ ts → o ∷ os ≡ t ∷ ts
     same_cons o t os ts e f = cc
+
     one_tree : ((tokens : List Token) × IsAccepted s tokens t) → ((tokens : List Token) × IsAccepted s tokens o) → o ≡ t
     one_tree (tokens, is) (more, other) =
         let same : more ≡ tokens = one_reading s more tokens other.reading is.reading in

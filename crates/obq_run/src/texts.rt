@@ -44,11 +44,7 @@ fn write_report<S: Sink>(out: &mut S, report: Report) -> Result<(), Failed>
 }
 
 /// Writes what each site wrote.
-fn write_sites<S: Sink>(
-    out: &mut S,
-    sites: &[SiteWord],
-    machine: &PlainRun,
-) -> Result<(), Failed>
+fn write_sites<S: Sink>(out: &mut S, sites: &[SiteWord], machine: &PlainRun) -> Result<(), Failed>
     requires { length sites.now ≤ 16 }
     ensures whole { OnOk result (Appends (S.written out.old) (S.written out.new) (sites_text (zip (names_of sites.now) (output machine.now.sites machine.now.config)))) }
     ensures prefix { GetsPrefix (S.written out.old) (S.written out.new) (sites_text (zip (names_of sites.now) (output machine.now.sites machine.now.config))) }

@@ -100,11 +100,13 @@ pub fn obliq<R: Threads + Wait + Sync, F: Files, O: Sink, E: Sink, G: Gate>(
             refuse(alloc, err, &[], Cause::TooManySites { word })
         }
         Err(WordsRefused::NoMemory) => refuse(alloc, err, &[], Cause::NoMemory),
-        Ok(Order::Run {
-            turns,
-            journal,
-            sites,
-        }) => run_sites(alloc, &sites, turns, journal, files, out, err),
+        Ok(
+            Order::Run {
+                turns,
+                journal,
+                sites,
+            },
+        ) => run_sites(alloc, &sites, turns, journal, files, out, err),
         Ok(Order::Check { sites }) => check_sources(alloc, &sites, files, out, err),
         Ok(Order::Replay { from, sites }) => {
             replay_run(alloc, from.as_str(), &sites, files, out, err)

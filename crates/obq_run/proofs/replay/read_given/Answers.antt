@@ -30,5 +30,5 @@ returns-in-Err-read_file-clause-unread g c =
     let within = held_within holds SOURCE_LIMIT paths (contents c.in-Ok.sources.items) c.in-Ok.ensures.held in
     let many : length sites ≡ length paths = sym (length-map sites (λ s. string_bytes s.path)) in
     let why = rises_since (files.faults c.args.files.now from) (files.faults c.read_sources.new.files from) (files.faults c.read_file.new.files from) c.in-Err-read_file.refused
-        (files.holds c.read_sources.new.files from) (holds from) (c.read_sources.ensures.later from) (c.read_sources.ensures.same from) c.in-Err-read_file.ensures.unread in
+    (files.holds c.read_sources.new.files from) (holds from) (c.read_sources.ensures.later from) (c.read_sources.ensures.same from) c.in-Err-read_file.ensures.unread in
     subst (ReplayRefusal holds Rises paths from) (sym c.journal_cause.ensures) (unread_journal holds Rises paths from _ c.in-Err-read_file.refused many within why)

@@ -18,10 +18,20 @@ use Rattle.obq_run.proofs.replay.replay_run.Goals as goal
 leads_to : (holds : List ℕ → Option (List ℕ)) (names paths : List (List ℕ)) (from : List ℕ) (played : Played) (s : ℕ) → WithJournal holds paths from (λ trees bytes. IsReplayed trees bytes played)
     → s ≡ status (report played.machine.turns played.machine.config) → WithJournal holds paths from (ReplaysTo names (shown played.journal) (output_text names played.machine []) s)
 leads_to holds names paths from played s w is = record {
-  sources = w.sources; held = w.held; trees = w.trees; accepted = w.accepted; bytes = w.bytes; told = w.told; within = w.within;
+  sources = w.sources;
+  held = w.held;
+  trees = w.trees;
+  accepted = w.accepted;
+  bytes = w.bytes;
+  told = w.told;
+  within = w.within;
   is_so = (
-    output played.machine.sites played.machine.config, report played.machine.turns played.machine.config, w.is_so.0, played_history _ played.machine (shown played.journal) w.is_so.1,
-    plain_text names played.machine, is,
+    output played.machine.sites played.machine.config,
+    report played.machine.turns played.machine.config,
+    w.is_so.0,
+    played_history _ played.machine (shown played.journal) w.is_so.1,
+    plain_text names played.machine,
+    is,
   );
 }
 
@@ -43,8 +53,11 @@ returns-in-Ok-clause-part g c =
     let names = names_of c.args.sites.now in
     let played = c.in-Ok.played in
     on_write_fault c.finish.result.cause _ _ (λ prefix. (
-      shown played.journal, output_text names played.machine [], status (report played.machine.turns played.machine.config),
-      leads_to holds names (paths_of c.args.sites.now) c.args.from.now played (status (report played.machine.turns played.machine.config)) c.in-Ok.ensures.replayed refl, prefix,
+      shown played.journal,
+      output_text names played.machine [],
+      status (report played.machine.turns played.machine.config),
+      leads_to holds names (paths_of c.args.sites.now) c.args.from.now played (status (report played.machine.turns played.machine.config)) c.in-Ok.ensures.replayed refl,
+      prefix,
     )) c.finish.ensures.part
 
 pub returns-in-Err-clause-completes : goal.returns-in-Err-clause-completes

@@ -23,8 +23,7 @@ returns-in-Ok-None c =
     let leads : replay_from j.turns (opening trees) j.entries ≡ Some new.config =
     subst (λ n. replay_from n (opening trees) j.entries ≡ Some new.config) start
     (subst (λ (es : List Entry). replay_from first.turns (opening trees) es ≡ Some new.config) c.entries.ensures (subst (λ k. replay_from first.turns k c.entries.result.now ≡ Some new.config) c.in-Ok-begin.ensures.config all.0)) in
-    let none : first_able new.turns new.config ≡ None = sym (c.in-Ok-None.ensures) ∙ c.in-Ok-None.field-0-is in
-    (
+    let none : first_able new.turns new.config ≡ None = sym (c.in-Ok-None.ensures) ∙ c.in-Ok-None.field-0-is in (
       c.in-Ok.ensures,
       record {
         sites = all.1 ∙ (c.in-Ok-begin.ensures.sites ∙ sym (length-map blocks block_tree));

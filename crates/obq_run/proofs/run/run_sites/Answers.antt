@@ -23,10 +23,15 @@ ran_so : (holds : List ℕ → Option (List ℕ)) (names paths : List (List ℕ)
     → part ≡ journal_part wanted (shown played.journal) → s ≡ status (report played.machine.turns played.machine.config)
     → IsRunOf holds SOURCE_LIMIT names paths turns wanted (shown played.journal) (output_text names played.machine part) s
 ran_so holds names paths turns wanted played part s w is ended = record {
-  sources = w.sources; held = w.held; trees = w.trees; accepted = w.accepted;
-  outputs = output played.machine.sites played.machine.config; threads = report played.machine.turns played.machine.config;
+  sources = w.sources;
+  held = w.held;
+  trees = w.trees;
+  accepted = w.accepted;
+  outputs = output played.machine.sites played.machine.config;
+  threads = report played.machine.turns played.machine.config;
   history = played_history _ played.machine (shown played.journal) w.is_run.is_played;
-  turn_limit = w.is_run.turn_limit; each = w.is_run.each;
+  turn_limit = w.is_run.turn_limit;
+  each = w.is_run.each;
   output_text = text_with names played.machine part ∙ ap (λ t. run_text (zip names (output played.machine.sites played.machine.config)) (report played.machine.turns played.machine.config) ++ t) is;
   report_status = ended;
 }
@@ -84,7 +89,8 @@ returns-in-Ok-journal_part-clause-part g c =
     let is = c.deref.ensures.value ∙ c.in-Ok-journal_part.ensures in
     let ended : ℕ = status (report played.machine.turns played.machine.config) in
     on_write_fault c.finish.result.cause _ _ (λ prefix. (
-      output_text names played.machine part, ended,
+      output_text names played.machine part,
+      ended,
       subst (λ (j : Journal). IsRunOf holds SOURCE_LIMIT names paths c.args.turns c.args.wanted j (output_text names played.machine part) ended) (sym c.finish.ensures.journal)
           (ran_so holds names paths c.args.turns c.args.wanted played part ended c.in-Ok.ensures.ran is refl),
       prefix,

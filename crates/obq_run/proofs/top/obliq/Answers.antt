@@ -126,7 +126,7 @@ returns-in-Ok-Replay-clause-completes_replay g c =
     let at_sites : ReplayCompletes holds (paths_of c.in-Ok-Replay.sites.items) from Rises output cause =
     subst (λ (s : List SiteWord). ReplayCompletes holds (paths_of s) from Rises output cause) c.deref-in-Ok-Replay.ensures.value c.replay_run.ensures.completes in
     λ good replay. subst (λ paths. ReplayCompletes holds paths (journal_path words) Rises output cause) sites.paths
-        (subst (λ path. ReplayCompletes holds (paths_of c.in-Ok-Replay.sites.items) path Rises output cause) is at_sites)
+    (subst (λ path. ReplayCompletes holds (paths_of c.in-Ok-Replay.sites.items) path Rises output cause) is at_sites)
 
 pub returns-in-Ok-Replay-clause-not_replayed : goal.returns-in-Ok-Replay-clause-not_replayed
 returns-in-Ok-Replay-clause-not_replayed g c =
@@ -143,7 +143,7 @@ returns-in-Ok-Replay-clause-not_replayed g c =
     let at_sites : ReplayRefusal holds Rises (paths_of c.in-Ok-Replay.sites.items) from cause =
     subst (λ (s : List SiteWord). ReplayRefusal holds Rises (paths_of s) from cause) c.deref-in-Ok-Replay.ensures.value (c.replay_run.ensures.refused refusal) in
     subst (λ paths. ReplayRefusal holds Rises paths (journal_path words) cause) sites.paths
-        (subst (λ path. ReplayRefusal holds Rises (paths_of c.in-Ok-Replay.sites.items) path cause) is at_sites)
+    (subst (λ path. ReplayRefusal holds Rises (paths_of c.in-Ok-Replay.sites.items) path cause) is at_sites)
 
 pub returns-in-Err-Usage-clause-told : goal.returns-in-Err-Usage-clause-told
 returns-in-Err-Usage-clause-told g c =
