@@ -1,5 +1,5 @@
--- What a machine that was run stands for, and its output.
-use Rattle.std.proofs.Common.{List, [], ap, append_assoc, subst, sym, ℕ, ◌++◌, ◌≡◌}
+-- What a run came to, and its output.
+use Rattle.std.proofs.Common.{List, Some, [], ap, append_assoc, length, subst, sym, ℕ, ◌++◌, ◌≡◌, ◌∙◌}
 use Rattle.std.proofs.lemmas.List.{append-nil}
 use Rattle.std.specs.List.{zip}
 use Rattle.std.specs.Prelude.{OnOk, Err, Ok, Result}
@@ -7,32 +7,36 @@ use Rattle.obq_base.specs.Tree.{BlockTree}
 use Rattle.obq_laws.proofs.Exclusion.{exclusion_law}
 use Rattle.obq_model.specs.Journal.{Journal}
 use Rattle.obq_model.specs.Output.{report_line, run_text}
-use Rattle.obq_model.specs.Replay.{output, report}
+use Rattle.obq_model.specs.Replay.{IsOver, output, replay, report}
 use Rattle.obq_plain.specs.PlainStates.{PlainState}
 use Rattle.obq_run.specs.declared.ends.Cause.{Cause}
 use Rattle.obq_run.specs.declared.ends.Cause.TheVariants as cause
 use Rattle.obq_run.specs.Ends.{OnRan, OnReplayed, OnWriteFault}
-use Rattle.obq_run.specs.Played.{IsPlayed, output_text, sites_text}
+use Rattle.obq_run.specs.Played.{IsPlayed, output_text, sites_text, texts_of}
 use Rattle.obq_run.specs.Runs.{IsHistoryOf}
+use Rattle.obq_run.specs.declared.outcome.Outcome.{Outcome}
 
-pub played_history : (trees : List BlockTree) (m : PlainState) (j : Journal) → IsPlayed trees m j → IsHistoryOf trees j (output m.sites m.config) (report m.turns m.config)
-played_history trees m j h =
+pub played_history : (trees : List BlockTree) (o : Outcome) (j : Journal) → IsPlayed trees o j → IsHistoryOf trees j (texts_of o.texts.items) o.report
+played_history trees o j h =
     let apart = exclusion_law trees j.turns j.entries in
-    record {
-      last = m.config;
-      replays = h.replays;
-      over = h.over;
-      written = ap (λ n. output n m.config) (sym h.sites);
-      reported = ap (λ n. report n m.config) (sym h.turn_limit);
-      holds = apart.0;
-      migrations = apart.1;
-    }
+    record { last = h.last; replays = h.replays; over = h.over; written = h.written; reported = h.reported; holds = apart.0; migrations = apart.1 }
 
-pub plain_text : (names : List (List ℕ)) (m : PlainState) → output_text names m [] ≡ run_text (zip names (output m.sites m.config)) (report m.turns m.config)
-plain_text names m = ap (λ t. sites_text (zip names (output m.sites m.config)) ++ t) (append-nil (report_line (report m.turns m.config)))
+-- a machine that stands where the journal leads came to this
+pub machine_played : (trees : List BlockTree) (m : PlainState) (o : Outcome) (j : Journal) → m.sites ≡ length trees → m.turns ≡ j.turns → replay trees j.turns j.entries ≡ Some m.config → IsOver j.turns m.config
+    → texts_of o.texts.items ≡ output m.sites m.config → o.report ≡ report m.turns m.config → IsPlayed trees o j
+machine_played trees m o j sites turns replays over texts reported = record {
+  last = m.config;
+  replays = replays;
+  over = over;
+  written = ap (λ n. output n m.config) (sym sites) ∙ sym texts;
+  reported = ap (λ n. report n m.config) (sym turns) ∙ sym reported;
+}
 
-pub text_with : (names : List (List ℕ)) (m : PlainState) (part : List ℕ) → output_text names m part ≡ run_text (zip names (output m.sites m.config)) (report m.turns m.config) ++ part
-text_with names m part = sym (append_assoc (sites_text (zip names (output m.sites m.config))) (report_line (report m.turns m.config)) part)
+pub plain_text : (names : List (List ℕ)) (o : Outcome) → output_text names o [] ≡ run_text (zip names (texts_of o.texts.items)) o.report
+plain_text names o = ap (λ t. sites_text (zip names (texts_of o.texts.items)) ++ t) (append-nil (report_line o.report))
+
+pub text_with : (names : List (List ℕ)) (o : Outcome) (part : List ℕ) → output_text names o part ≡ run_text (zip names (texts_of o.texts.items)) o.report ++ part
+text_with names o part = sym (append_assoc (sites_text (zip names (texts_of o.texts.items))) (report_line o.report) part)
 
 pub on_ok : {T E : Type 0} (r : Result T E) (P Q : Type 0) → (P → Q) → OnOk r P → OnOk r Q
 on_ok (Ok x) P Q f h = f h

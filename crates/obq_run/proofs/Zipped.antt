@@ -1,11 +1,19 @@
 -- The outputs of sites, by their names.
-use Rattle.std.proofs.Common.{List, None, Option, Some, [], ap, arith, drop, length, refl, slice_get, subst, suc, sym, take, zero, ℕ, ◌++◌, ◌≡◌, ◌≤◌, ◌∙◌, ◌∷◌}
+use Rattle.std.proofs.Common.{List, None, Option, Some, [], ap, arith, drop, length, map, refl, slice_get, subst, suc, sym, take, zero, ℕ, ◌++◌, ◌≡◌, ◌≤◌, ◌∙◌, ◌∷◌}
 use Rattle.std.specs.Io.KnownBytes.{Appends}
 use Rattle.std.specs.List.{zip}
 use Rattle.obq_io.specs.Known.{GetsPrefix}
 use Rattle.std.proofs.lemmas.Grind.{flat_map-append}
+use Rattle.std.proofs.lemmas.List.{take-map}
+use Rattle.obq_model.specs.Config.{Config}
 use Rattle.obq_model.specs.Output.{site_text}
-use Rattle.obq_run.specs.Played.{sites_text}
+use Rattle.obq_model.specs.Cells.{written}
+use Rattle.obq_model.specs.Replay.{output}
+use Rattle.obq_model.specs.Store.{Cell}
+use Rattle.std.specs.Global.{Vec}
+use Rattle.std.specs.Option.{option_map}
+use Rattle.std.proofs.lemmas.Option.{slice_get-map}
+use Rattle.obq_run.specs.Played.{sites_text, texts_of}
 
 -- a site's name and what it wrote
 abbrev pub pair : List ℕ → List ℕ → List ℕ × List ℕ
@@ -72,3 +80,33 @@ take_all (x ∷ xs) = ap (λ ys. x ∷ ys) (take_all xs)
 -- what got a whole text got a prefix of it
 pub whole_prefix : (a b : Option (List ℕ)) (t : List ℕ) → Appends a b t → GetsPrefix a b t
 whole_prefix a b t h = (length t, omega arith, subst (λ x. Appends a b x) (sym (take_all t)) h)
+
+-- ---- lists up to a place
+
+pub past_none : {X : Type 0} (xs : List X) (k : ℕ) → slice_get xs k ≡ None → take k xs ≡ xs
+past_none [] zero h = refl
+past_none [] (suc k) h = refl
+past_none (x ∷ xs) zero h = absurd cc
+past_none (x ∷ xs) (suc k) h = ap (λ ys. x ∷ ys) (past_none xs k h)
+
+take_twice : {X : Type 0} (n k : ℕ) (xs : List X) → n ≤ k → take k (take n xs) ≡ take n xs
+take_twice zero zero xs h = refl
+take_twice zero (suc k) xs h = refl
+take_twice (suc n) zero xs h = absurd (omega (arith, h))
+take_twice (suc n) (suc k) [] h = refl
+take_twice (suc n) (suc k) (x ∷ xs) h = ap (λ ys. x ∷ ys) (take_twice n k xs (omega (arith, h)))
+
+-- as many outputs as sites are all
+pub past_end : (n : ℕ) (c : Config) (k : ℕ) → n ≤ k → take k (output n c) ≡ output n c
+past_end n c k h = take-map (λ (cell : Cell ℕ). written (Some cell)) k (take n c.store.cells) ∙ ap (map (λ (cell : Cell ℕ). written (Some cell))) (take_twice n k c.store.cells h)
+
+pub take_more : {X : Type 0} (xs : List X) (k : ℕ) (x : X) → slice_get xs k ≡ Some x → take (suc k) xs ≡ take k xs ++ x ∷ []
+take_more [] k x h = absurd cc
+take_more (y ∷ ys) zero x h = head y x h
+  where
+    head : {X : Type 0} (y x : X) → Some y ≡ Some x → y ∷ [] ≡ x ∷ []
+    head y x h = cc
+take_more (y ∷ ys) (suc k) x h = ap (λ zs. y ∷ zs) (take_more ys k x h)
+
+pub text_at : (texts : List (Vec ℕ)) (k : ℕ) → slice_get (texts_of texts) k ≡ option_map (λ t. t.items) (slice_get texts k)
+text_at texts k = slice_get-map (λ t. t.items) texts k

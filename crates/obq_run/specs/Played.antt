@@ -1,5 +1,6 @@
--- A machine that was run, and the output that it has.
+-- What a run came to, and the output that it has.
 use Rattle.std.specs.Prelude.{Err, List, Ok, Option, Result, Some, length, map, ℕ, ⊤, ◌++◌, ◌≡◌}
+use Rattle.std.specs.Global.{Vec}
 use Rattle.std.specs.Io.KnownBytes.{Appends}
 use Rattle.std.specs.List.{flat_map, zip}
 use Rattle.obq_base.specs.Tree.{BlockTree}
@@ -22,6 +23,7 @@ use Rattle.obq_run.specs.Held.{AreHeld}
 use Rattle.obq_run.specs.Runs.{WithJournal}
 use Rattle.obq_run.specs.declared.ends.Cause.{Cause}
 use Rattle.obq_run.specs.declared.ends.Cause.TheVariants as cause
+use Rattle.obq_run.specs.declared.outcome.Outcome.{Outcome}
 use Rattle.obq_run.specs.declared.playing.Played.{Played}
 use Rattle.obq_run.specs.declared.replaying.EntriesRefused.{EntriesRefused}
 use Rattle.obq_run.specs.declared.replaying.EntriesRefused.TheVariants as refused
@@ -30,20 +32,24 @@ use Rattle.obq_run.specs.declared.replaying.EntriesRefused.TheVariants as refuse
 abbrev pub sites_text : List (List ℕ × List ℕ) → List ℕ
 sites_text sites = flat_map (λ s. site_text s.0 s.1) sites
 
--- the output of the machine at sites of these names, and this text behind it
-abbrev pub output_text : List (List ℕ) → PlainState → List ℕ → List ℕ
-output_text names m journal = sites_text (zip names (output m.sites m.config)) ++ (report_line (report m.turns m.config) ++ journal)
+abbrev pub texts_of : List (Vec ℕ) → List (List ℕ)
+texts_of texts = map (λ t. t.items) texts
 
--- The machine stands where the journal leads, under the same limit of turns, and no thread can go on.
-pub record IsPlayed (trees : List BlockTree) (machine : PlainState) (journal : Journal) : Type 0 where
-  pub sites : machine.sites ≡ length trees
-  pub turn_limit : machine.turns ≡ journal.turns
-  pub replays : replay trees journal.turns journal.entries ≡ Some machine.config
-  pub over : IsOver journal.turns machine.config
+-- what a run came to at sites of these names, and this text behind it
+abbrev pub output_text : List (List ℕ) → Outcome → List ℕ → List ℕ
+output_text names o journal = sites_text (zip names (texts_of o.texts.items)) ++ (report_line o.report ++ journal)
+
+-- This is what the run came to where the journal leads, and no thread can go on there.
+pub record IsPlayed (trees : List BlockTree) (outcome : Outcome) (journal : Journal) : Type 0 where
+  pub last : Config
+  pub replays : replay trees journal.turns journal.entries ≡ Some last
+  pub over : IsOver journal.turns last
+  pub written : output (length trees) last ≡ texts_of outcome.texts.items
+  pub reported : report journal.turns last ≡ outcome.report
 
 -- a run under this limit, of which each entry takes a turn
 pub record IsRun (trees : List BlockTree) (turns : ℕ) (played : Played) : Type 0 where
-  pub is_played : IsPlayed trees played.machine (shown played.journal)
+  pub is_played : IsPlayed trees played.outcome (shown played.journal)
   pub turn_limit : played.journal.turns ≡ turns
   pub each : TakeTurns played.journal.entries
 
@@ -63,9 +69,9 @@ TextRefusal trees bytes (cause.Unfinished thread) =
 TextRefusal trees bytes cause.NoMemory = ⊤
 TextRefusal trees bytes why = ⊥
 
--- the text is this journal, whose end the machine stands at
+-- the text is this journal, whose end this is
 abbrev pub IsReplayed : List BlockTree → List ℕ → Played → Type 0
-IsReplayed trees bytes played = (journal_in bytes ≡ Ok (shown played.journal)) × IsPlayed trees played.machine (shown played.journal)
+IsReplayed trees bytes played = (journal_in bytes ≡ Ok (shown played.journal)) × IsPlayed trees played.outcome (shown played.journal)
 
 -- The text was written whole, and nothing told; or a prefix of it, the count of faults of the sink rose, and that was told.
 abbrev pub Wrote : (text : List ℕ) → (old new : Option (List ℕ)) → (rose : Type 0) → (told_before told_now : Option (List ℕ)) → (untold quiet : Type 0) → Result Unit Failed → Type 0

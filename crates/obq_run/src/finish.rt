@@ -1,6 +1,6 @@
 //! The ends of calls: a refusal that is told, and an output that is written.
 
-ghost use Rattle.std.specs.Prelude.{◌≡◌, ◌⊎◌, ◌≤◌, [], length};
+ghost use Rattle.std.specs.Prelude.{◌≡◌, ◌⊎◌, []};
 ghost use Rattle.std.specs.Io.KnownBytes.{Appends};
 ghost use Rattle.obq_io.specs.Causes.{Rose};
 ghost use Rattle.obq_io.specs.Known.{GetsPrefix};
@@ -9,10 +9,10 @@ ghost use Rattle.obq_run.specs.Played.{Wrote, output_text};
 ghost use Rattle.obq_words.specs.Words.{names_of};
 
 use crate::ends::{Cause, End, status_for};
+use crate::outcome::Outcome;
 use crate::texts::{write_cause, write_output};
 use obq_io::{Failed, Sink};
 use obq_journal::Journal;
-use obq_plain::PlainRun;
 use obq_words::SiteWord;
 use std::alloc::Global;
 
@@ -32,18 +32,17 @@ pub fn refuse<E: Sink>(alloc: Global, err: &mut E, sites: &[SiteWord], cause: Ca
     }
 }
 
-/// Writes the output of a machine, with this text behind it; where that fails it is told on `err`.
+/// Writes what a run came to, with this text behind it; where that fails it is told on `err`.
 pub fn write_whole<O: Sink, E: Sink>(
     out: &mut O,
     err: &mut E,
     sites: &[SiteWord],
-    machine: &PlainRun,
+    outcome: &Outcome,
     journal: &[u8],
 ) -> Result<(), Failed>
-    requires { length sites.now ≤ 16 }
-    ensures { Wrote (output_text (names_of sites.now) machine.now journal.now) (O.written out.old) (O.written out.new) (Rose (O.faults out.old) (O.faults out.new)) (E.written err.old) (E.written err.new) (Rose (E.faults err.old) (E.faults err.new)) (err.new ≡ err.old) result }
+    ensures { Wrote (output_text (names_of sites.now) outcome.now journal.now) (O.written out.old) (O.written out.new) (Rose (O.faults out.old) (O.faults out.new)) (E.written err.old) (E.written err.new) (Rose (E.faults err.old) (E.faults err.new)) (err.new ≡ err.old) result }
 {
-    match write_output(out, sites, machine, journal) {
+    match write_output(out, sites, outcome, journal) {
         Ok(()) => Ok(()),
         Err(failed) => {
             let _ = write_cause(err, sites, &Cause::WriteFault);

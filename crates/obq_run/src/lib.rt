@@ -6,6 +6,7 @@ mod accepted;
 mod check;
 mod ends;
 mod finish;
+mod outcome;
 mod playing;
 mod reading;
 mod replay;

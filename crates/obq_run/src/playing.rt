@@ -7,6 +7,7 @@ ghost use Rattle.obq_model.specs.Config.{Config};
 ghost use Rattle.obq_model.specs.Replay.{take_entry};
 ghost use Rattle.obq_run.specs.Played.{IsRun};
 
+use crate::outcome::{Outcome, outcome_of};
 use obq_base::{Block, Entry, NoMemory};
 use obq_journal::Journal;
 use obq_plain::{PlainRun, TakeRefused};
@@ -15,10 +16,10 @@ use std::alloc::Global;
 /// How many pure steps a thread does at most before another has its turn.
 const SLICE: u32 = 1000;
 
-/// A machine that no thread can go on in, and the journal that led there.
+/// What a run came to in which no thread can go on, and the journal that led there.
 #[derive(Drop)]
 pub struct Played {
-    pub machine: PlainRun,
+    pub outcome: Outcome,
     pub journal: Journal,
 }
 
@@ -59,7 +60,10 @@ pub fn play(alloc: Global, blocks: &[Block], turns: u32) -> Result<Played, NoMem
                 do_entry(alloc, &mut machine, &mut journal, entry)?;
                 next = entry.thread.saturating_add(1);
             }
-            None => return Ok(Played { machine, journal }),
+            None => {
+                let outcome = outcome_of(alloc, &machine)?;
+                return Ok(Played { outcome, journal });
+            }
         }
     }
     // A thread has a limit of turns, and there are at most 64: no run has so many entries.

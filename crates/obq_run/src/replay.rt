@@ -8,7 +8,7 @@ ghost use Rattle.obq_io.specs.Causes.{Rose};
 ghost use Rattle.obq_io.specs.Known.{GetsPrefix, IsIt};
 ghost use Rattle.obq_journal.specs.Recording.{shown};
 ghost use Rattle.obq_model.specs.Journal as history;
-ghost use Rattle.obq_model.specs.Replay.{report, status};
+ghost use Rattle.obq_model.specs.Replay.{status};
 ghost use Rattle.obq_run.specs.Ends.{GetsLine, HasStatus, IsRefusal, IsReplayEnd, IsReplayFinish, OnReplayed, OnWriteFault, line_of, unread_journal_cause};
 ghost use Rattle.obq_run.specs.Held.{AreHeld, PathRose};
 ghost use Rattle.obq_run.specs.Played.{ReplaysOf, SourcesReplay, output_text};
@@ -112,10 +112,9 @@ fn finish<O: Sink, E: Sink>(
     sites: &[SiteWord],
     played: Played,
 ) -> End
-    requires { length sites.now ≤ 16 }
-    ensures replayed { OnReplayed result.cause ((shown result.journal ≡ shown played.journal) × (result.status ≡ status (report played.machine.turns played.machine.config))
-        × Appends (O.written out.old) (O.written out.new) (output_text (names_of sites.now) played.machine [])) }
-    ensures part { OnWriteFault result.cause (GetsPrefix (O.written out.old) (O.written out.new) (output_text (names_of sites.now) played.machine [])) }
+    ensures replayed { OnReplayed result.cause ((shown result.journal ≡ shown played.journal) × (result.status ≡ status played.outcome.report)
+        × Appends (O.written out.old) (O.written out.new) (output_text (names_of sites.now) played.outcome [])) }
+    ensures part { OnWriteFault result.cause (GetsPrefix (O.written out.old) (O.written out.new) (output_text (names_of sites.now) played.outcome [])) }
     ensures write_fault { OnWriteFault result.cause (Rose (O.faults out.old) (O.faults out.new)) }
     ensures no_journal { OnWriteFault result.cause (result.journal.entries ≡ []) }
     ensures only { IsReplayFinish result.cause }
@@ -123,10 +122,10 @@ fn finish<O: Sink, E: Sink>(
     ensures told { GetsLine (E.written err.old) (E.written err.new) (Rose (E.faults err.old) (E.faults err.new)) (line_of (names_of sites.now) result.cause) }
     ensures quiet { OnReplayed result.cause (err.new ≡ err.old) }
 {
-    let Played { machine, journal } = played;
-    match write_whole(out, err, sites, &machine, b"") {
+    let Played { outcome, journal } = played;
+    match write_whole(out, err, sites, &outcome, b"") {
         Ok(()) => End {
-            status: status_of(machine.report()),
+            status: status_of(outcome.report),
             cause: Cause::Replayed,
             journal,
         },

@@ -6,6 +6,7 @@ ghost use Rattle.obq_base.specs.declared.limits.TheConstants.{JOURNAL_LIMIT};
 ghost use Rattle.obq_run.specs.Played.{IsReplayed, TakesAll, TextRefusal};
 
 use crate::ends::Cause;
+use crate::outcome::outcome_of;
 use crate::playing::Played;
 use obq_base::{Block, Entry};
 use obq_journal::{JournalRefused, read_journal};
@@ -60,8 +61,12 @@ pub fn replay_text(alloc: Global, blocks: &[Block], text: &[u8]) -> Result<Playe
         Err(EntriesRefused::NoMemory) => return Err(Cause::NoMemory),
     }
     match machine.first_able(alloc) {
-        Ok(None) => Ok(Played { machine, journal }),
-        Ok(Some(thread)) => Err(Cause::Unfinished { thread }),
+        Ok(None) => {}
+        Ok(Some(thread)) => return Err(Cause::Unfinished { thread }),
+        Err(_) => return Err(Cause::NoMemory),
+    }
+    match outcome_of(alloc, &machine) {
+        Ok(outcome) => Ok(Played { outcome, journal }),
         Err(_) => Err(Cause::NoMemory),
     }
 }

@@ -5,7 +5,7 @@ ghost use Rattle.std.specs.Io.KnownBytes.{Appends};
 ghost use Rattle.obq_io.specs.Causes.{Rose};
 ghost use Rattle.obq_io.specs.Known.{GetsPrefix};
 ghost use Rattle.obq_journal.specs.Recording.{shown};
-ghost use Rattle.obq_model.specs.Replay.{report, status};
+ghost use Rattle.obq_model.specs.Replay.{status};
 ghost use Rattle.obq_run.specs.Ends.{GetsLine, HasStatus, IfReadFault, IfRefused, IfTooLong, IsRefusal, IsRunEnd, IsRunFinish, IsSourceRefusal, OnRan, OnWriteFault, line_of};
 ghost use Rattle.obq_run.specs.Held.{IsFaultAt, IsTooLongAt, PathRose};
 ghost use Rattle.obq_run.specs.Played.{RunsOf, output_text};
@@ -70,21 +70,20 @@ fn finish<O: Sink, E: Sink>(
     played: Played,
     text: &[u8],
 ) -> End
-    requires { length sites.now ≤ 16 }
     ensures journal { shown result.journal ≡ shown played.journal }
-    ensures ran { OnRan result.cause ((result.status ≡ status (report played.machine.turns played.machine.config))
-        × Appends (O.written out.old) (O.written out.new) (output_text (names_of sites.now) played.machine text.now)) }
-    ensures part { OnWriteFault result.cause (GetsPrefix (O.written out.old) (O.written out.new) (output_text (names_of sites.now) played.machine text.now)) }
+    ensures ran { OnRan result.cause ((result.status ≡ status played.outcome.report)
+        × Appends (O.written out.old) (O.written out.new) (output_text (names_of sites.now) played.outcome text.now)) }
+    ensures part { OnWriteFault result.cause (GetsPrefix (O.written out.old) (O.written out.new) (output_text (names_of sites.now) played.outcome text.now)) }
     ensures write_fault { OnWriteFault result.cause (Rose (O.faults out.old) (O.faults out.new)) }
     ensures only { IsRunFinish result.cause }
     ensures status { HasStatus result.cause result.status }
     ensures told { GetsLine (E.written err.old) (E.written err.new) (Rose (E.faults err.old) (E.faults err.new)) (line_of (names_of sites.now) result.cause) }
     ensures quiet { OnRan result.cause (err.new ≡ err.old) }
 {
-    let Played { machine, journal } = played;
-    match write_whole(out, err, sites, &machine, text) {
+    let Played { outcome, journal } = played;
+    match write_whole(out, err, sites, &outcome, text) {
         Ok(()) => End {
-            status: status_of(machine.report()),
+            status: status_of(outcome.report),
             cause: Cause::Ran,
             journal,
         },

@@ -1,23 +1,22 @@
 //! The texts that a call writes. Numbers are written from a buffer on the stack, so no call here
 //! takes memory.
 
-ghost use Rattle.std.specs.Prelude.{◌≡◌, ◌≤◌, [], OnOk, length, slice_index_or};
+ghost use Rattle.std.specs.Prelude.{◌≡◌, [], MatchOption, None, OnOk, Some, slice_get, slice_index_or};
 ghost use Rattle.std.specs.Io.KnownBytes.{Appends};
 ghost use Rattle.std.specs.List.{zip};
 ghost use Rattle.obq_io.specs.Causes.{HasCause};
 ghost use Rattle.obq_io.specs.Known.{GetsPrefix};
 ghost use Rattle.obq_model.specs.Output.{check_text, kind_text, lexical_line, ok_line, refused_line, report_line, site_text, syntax_line, unbound_line};
-ghost use Rattle.obq_model.specs.Replay.{output};
 ghost use Rattle.obq_run.specs.Ends.{line_of};
-ghost use Rattle.obq_run.specs.Played.{output_text, sites_text};
+ghost use Rattle.obq_run.specs.Played.{output_text, sites_text, texts_of};
 ghost use Rattle.obq_words.specs.Words.{names_of};
 
 use crate::ends::Cause;
+use crate::outcome::Outcome;
 use itoa::Buffer;
 use obq_base::{LexKind, Report, SourceFault};
 use obq_ends::report_line;
 use obq_io::{Failed, Sink, write_pieces, write_text};
-use obq_plain::PlainRun;
 use obq_words::SiteWord;
 
 /// Writes what a site of this name wrote.
@@ -43,15 +42,25 @@ fn write_report<S: Sink>(out: &mut S, report: Report) -> Result<(), Failed>
     report_line(report).write_to(out)
 }
 
+/// The text with this number.
+#[tactic(auto, using(crate::proofs::Zipped::text_at))]
+fn text_at(texts: &[Vec<u8>], k: usize) -> Option<&[u8]>
+    ensures { MatchOption result (slice_get (texts_of texts.now) k ≡ None) (λ bytes. slice_get (texts_of texts.now) k ≡ Some bytes.now) }
+{
+    match texts.get(k) {
+        Some(text) => Some(text.as_slice()),
+        None => None,
+    }
+}
+
 /// Writes what each site wrote.
-fn write_sites<S: Sink>(out: &mut S, sites: &[SiteWord], machine: &PlainRun) -> Result<(), Failed>
-    requires { length sites.now ≤ 16 }
-    ensures whole { OnOk result (Appends (S.written out.old) (S.written out.new) (sites_text (zip (names_of sites.now) (output machine.now.sites machine.now.config)))) }
-    ensures prefix { GetsPrefix (S.written out.old) (S.written out.new) (sites_text (zip (names_of sites.now) (output machine.now.sites machine.now.config))) }
+fn write_sites<S: Sink>(out: &mut S, sites: &[SiteWord], texts: &[Vec<u8>]) -> Result<(), Failed>
+    ensures whole { OnOk result (Appends (S.written out.old) (S.written out.new) (sites_text (zip (names_of sites.now) (texts_of texts.now)))) }
+    ensures prefix { GetsPrefix (S.written out.old) (S.written out.new) (sites_text (zip (names_of sites.now) (texts_of texts.now))) }
     ensures cause { HasCause (S.faults out.old) (S.faults out.new) result }
 {
     for (k, site) in sites.iter().enumerate() {
-        match machine.output(k as u16) {
+        match text_at(texts, k) {
             Some(bytes) => write_site(out, site.name.as_bytes(), bytes)?,
             None => return Ok(()),
         }
@@ -64,16 +73,15 @@ fn write_sites<S: Sink>(out: &mut S, sites: &[SiteWord], machine: &PlainRun) -> 
 pub fn write_output<S: Sink>(
     out: &mut S,
     sites: &[SiteWord],
-    machine: &PlainRun,
+    outcome: &Outcome,
     journal: &[u8],
 ) -> Result<(), Failed>
-    requires { length sites.now ≤ 16 }
-    ensures whole { OnOk result (Appends (S.written out.old) (S.written out.new) (output_text (names_of sites.now) machine.now journal.now)) }
-    ensures prefix { GetsPrefix (S.written out.old) (S.written out.new) (output_text (names_of sites.now) machine.now journal.now) }
+    ensures whole { OnOk result (Appends (S.written out.old) (S.written out.new) (output_text (names_of sites.now) outcome.now journal.now)) }
+    ensures prefix { GetsPrefix (S.written out.old) (S.written out.new) (output_text (names_of sites.now) outcome.now journal.now) }
     ensures cause { HasCause (S.faults out.old) (S.faults out.new) result }
 {
-    write_sites(out, sites, machine)?;
-    write_report(out, machine.report())?;
+    write_sites(out, sites, &outcome.texts)?;
+    write_report(out, outcome.report)?;
     write_text(out, journal)
 }
 

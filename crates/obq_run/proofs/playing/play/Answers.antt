@@ -6,6 +6,8 @@ use Rattle.obq_base.specs.declared.acts.Entry.{Entry}
 use Rattle.obq_model.specs.Journal.{Journal}
 use Rattle.obq_model.specs.Replay.{IsOver, TakeTurns, replay}
 use Rattle.obq_plain.specs.PlainStates.{NextCases}
+use Rattle.obq_journal.specs.Recording.{shown}
+use Rattle.obq_run.proofs.Histories.{machine_played}
 use Rattle.obq_run.proofs.Taken.{taken_more, turns_more}
 use Rattle.obq_run.proofs.playing.play.Goals as goal
 
@@ -17,12 +19,9 @@ returns-in-None c =
     let stands = c.loop.invariant in
     let none : NextCases m None = subst (λ o. NextCases m o) c.in-None.is c.in_ok-entry.ensures in
     record {
-      is_played = record {
-        sites = stands.sites ∙ sym (length-map blocks block_tree);
-        turn_limit = stands.limit ∙ sym stands.kept;
-        replays = subst (λ n. replay trees n c.loop.journal.entries ≡ Some m.config) (sym stands.kept) stands.leads;
-        over = subst (λ n. IsOver n m.config) (stands.limit ∙ sym stands.kept) none;
-      };
+      is_played = machine_played trees m c.in_ok-outcome-in-None.outcome (shown c.loop.journal) (stands.sites ∙ sym (length-map blocks block_tree)) (stands.limit ∙ sym stands.kept)
+          (subst (λ n. replay trees n c.loop.journal.entries ≡ Some m.config) (sym stands.kept) stands.leads) (subst (λ n. IsOver n m.config) (stands.limit ∙ sym stands.kept) none)
+          c.in_ok-outcome-in-None.ensures.texts c.in_ok-outcome-in-None.ensures.report;
       turn_limit = stands.kept;
       each = stands.each;
     }

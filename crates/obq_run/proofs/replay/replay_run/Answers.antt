@@ -5,8 +5,8 @@ use Rattle.obq_io.specs.Causes.{Rose}
 use Rattle.obq_io.specs.Known.{GetsPrefix}
 use Rattle.obq_journal.specs.Recording.{shown}
 use Rattle.obq_model.specs.Journal.{Journal}
-use Rattle.obq_model.specs.Replay.{output, report, status}
-use Rattle.obq_run.specs.Played.{IsReplayed, output_text}
+use Rattle.obq_model.specs.Replay.{status}
+use Rattle.obq_run.specs.Played.{IsReplayed, output_text, texts_of}
 use Rattle.obq_run.specs.Runs.{ReplayCompletes, ReplaysTo, WithJournal}
 use Rattle.obq_run.specs.declared.playing.Played.{Played}
 use Rattle.obq_words.specs.Words.{names_of, paths_of}
@@ -16,7 +16,7 @@ use Rattle.obq_run.proofs.replay.replay_run.Goals as goal
 
 -- a journal that was replayed so leads to this output
 leads_to : (holds : List ℕ → Option (List ℕ)) (names paths : List (List ℕ)) (from : List ℕ) (played : Played) (s : ℕ) → WithJournal holds paths from (λ trees bytes. IsReplayed trees bytes played)
-    → s ≡ status (report played.machine.turns played.machine.config) → WithJournal holds paths from (ReplaysTo names (shown played.journal) (output_text names played.machine []) s)
+    → s ≡ status (played.outcome.report) → WithJournal holds paths from (ReplaysTo names (shown played.journal) (output_text names played.outcome []) s)
 leads_to holds names paths from played s w is = record {
   sources = w.sources;
   held = w.held;
@@ -26,11 +26,11 @@ leads_to holds names paths from played s w is = record {
   told = w.told;
   within = w.within;
   is_so = (
-    output played.machine.sites played.machine.config,
-    report played.machine.turns played.machine.config,
+    texts_of played.outcome.texts.items,
+    played.outcome.report,
     w.is_so.0,
-    played_history _ played.machine (shown played.journal) w.is_so.1,
-    plain_text names played.machine,
+    played_history _ played.outcome (shown played.journal) w.is_so.1,
+    plain_text names played.outcome,
     is,
   );
 }
@@ -41,8 +41,8 @@ returns-in-Ok-clause-replayed g c =
     let names = names_of c.args.sites.now in
     let played = c.in-Ok.played in
     on_replayed c.finish.result.cause _ _ (λ h. (
-      output_text names played.machine [],
-      subst (λ (j : Journal). WithJournal holds (paths_of c.args.sites.now) c.args.from.now (ReplaysTo names j (output_text names played.machine []) c.finish.result.status)) (sym h.0)
+      output_text names played.outcome [],
+      subst (λ (j : Journal). WithJournal holds (paths_of c.args.sites.now) c.args.from.now (ReplaysTo names j (output_text names played.outcome []) c.finish.result.status)) (sym h.0)
           (leads_to holds names (paths_of c.args.sites.now) c.args.from.now played c.finish.result.status c.in-Ok.ensures.replayed h.1),
       h.2,
     )) c.finish.ensures.replayed
@@ -54,9 +54,9 @@ returns-in-Ok-clause-part g c =
     let played = c.in-Ok.played in
     on_write_fault c.finish.result.cause _ _ (λ prefix. (
       shown played.journal,
-      output_text names played.machine [],
-      status (report played.machine.turns played.machine.config),
-      leads_to holds names (paths_of c.args.sites.now) c.args.from.now played (status (report played.machine.turns played.machine.config)) c.in-Ok.ensures.replayed refl,
+      output_text names played.outcome [],
+      status (played.outcome.report),
+      leads_to holds names (paths_of c.args.sites.now) c.args.from.now played (status (played.outcome.report)) c.in-Ok.ensures.replayed refl,
       prefix,
     )) c.finish.ensures.part
 

@@ -7,9 +7,9 @@ use Rattle.obq_io.specs.Known.{GetsPrefix}
 use Rattle.obq_journal.specs.Recording.{shown}
 use Rattle.obq_model.specs.Journal.{Journal}
 use Rattle.obq_model.specs.Output.{run_text}
-use Rattle.obq_model.specs.Replay.{TakeTurns, output, report, status}
+use Rattle.obq_model.specs.Replay.{TakeTurns, status}
 use Rattle.obq_run.specs.Ends.{GetsLine, IsRanOrNoMemory, line_of}
-use Rattle.obq_run.specs.Played.{RunsOf, output_text}
+use Rattle.obq_run.specs.Played.{RunsOf, output_text, texts_of}
 use Rattle.obq_run.specs.Runs.{IsRunOf, RefusalCompletes, RunCompletes, TooLongCompletes, journal_part}
 use Rattle.obq_run.specs.declared.playing.Played.{Played}
 use Rattle.obq_words.specs.Words.{names_of, paths_of}
@@ -20,19 +20,19 @@ use Rattle.obq_run.proofs.run.run_sites.Goals as goal
 
 -- sources that ran so have this output, with the journal behind it where it is wanted
 ran_so : (holds : List ℕ → Option (List ℕ)) (names paths : List (List ℕ)) (turns : ℕ) (wanted : Bool) (played : Played) (part : List ℕ) (s : ℕ) → RunsOf holds SOURCE_LIMIT paths turns played
-    → part ≡ journal_part wanted (shown played.journal) → s ≡ status (report played.machine.turns played.machine.config)
-    → IsRunOf holds SOURCE_LIMIT names paths turns wanted (shown played.journal) (output_text names played.machine part) s
+    → part ≡ journal_part wanted (shown played.journal) → s ≡ status (played.outcome.report)
+    → IsRunOf holds SOURCE_LIMIT names paths turns wanted (shown played.journal) (output_text names played.outcome part) s
 ran_so holds names paths turns wanted played part s w is ended = record {
   sources = w.sources;
   held = w.held;
   trees = w.trees;
   accepted = w.accepted;
-  outputs = output played.machine.sites played.machine.config;
-  threads = report played.machine.turns played.machine.config;
-  history = played_history _ played.machine (shown played.journal) w.is_run.is_played;
+  outputs = texts_of played.outcome.texts.items;
+  threads = played.outcome.report;
+  history = played_history _ played.outcome (shown played.journal) w.is_run.is_played;
   turn_limit = w.is_run.turn_limit;
   each = w.is_run.each;
-  output_text = text_with names played.machine part ∙ ap (λ t. run_text (zip names (output played.machine.sites played.machine.config)) (report played.machine.turns played.machine.config) ++ t) is;
+  output_text = text_with names played.outcome part ∙ ap (λ t. run_text (zip names (texts_of played.outcome.texts.items)) (played.outcome.report) ++ t) is;
   report_status = ended;
 }
 
@@ -73,8 +73,8 @@ returns-in-Ok-journal_part-clause-ran g c =
     let part : List ℕ = c.deref.result.now in
     let is = c.deref.ensures.value ∙ c.in-Ok-journal_part.ensures in
     on_ran c.finish.result.cause _ _ (λ h. (
-      output_text names played.machine part,
-      subst (λ (j : Journal). IsRunOf holds SOURCE_LIMIT names paths c.args.turns c.args.wanted j (output_text names played.machine part) c.finish.result.status) (sym c.finish.ensures.journal)
+      output_text names played.outcome part,
+      subst (λ (j : Journal). IsRunOf holds SOURCE_LIMIT names paths c.args.turns c.args.wanted j (output_text names played.outcome part) c.finish.result.status) (sym c.finish.ensures.journal)
           (ran_so holds names paths c.args.turns c.args.wanted played part c.finish.result.status c.in-Ok.ensures.ran is h.0),
       h.1,
     )) c.finish.ensures.ran
@@ -87,11 +87,11 @@ returns-in-Ok-journal_part-clause-part g c =
     let played = c.in-Ok.played in
     let part : List ℕ = c.deref.result.now in
     let is = c.deref.ensures.value ∙ c.in-Ok-journal_part.ensures in
-    let ended : ℕ = status (report played.machine.turns played.machine.config) in
+    let ended : ℕ = status (played.outcome.report) in
     on_write_fault c.finish.result.cause _ _ (λ prefix. (
-      output_text names played.machine part,
+      output_text names played.outcome part,
       ended,
-      subst (λ (j : Journal). IsRunOf holds SOURCE_LIMIT names paths c.args.turns c.args.wanted j (output_text names played.machine part) ended) (sym c.finish.ensures.journal)
+      subst (λ (j : Journal). IsRunOf holds SOURCE_LIMIT names paths c.args.turns c.args.wanted j (output_text names played.outcome part) ended) (sym c.finish.ensures.journal)
           (ran_so holds names paths c.args.turns c.args.wanted played part ended c.in-Ok.ensures.ran is refl),
       prefix,
     )) c.finish.ensures.part

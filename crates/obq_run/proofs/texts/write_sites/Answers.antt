@@ -7,8 +7,7 @@ use Rattle.std.proofs.lemmas.Option.{slice_get-get_or, slice_get-map}
 use Rattle.obq_io.specs.Known.{GetsPrefix}
 use Rattle.obq_io.proofs.Told.{appends_more, prefix_behind}
 use Rattle.obq_model.specs.Output.{site_text}
-use Rattle.obq_model.specs.Replay.{output}
-use Rattle.obq_run.specs.Played.{sites_text}
+use Rattle.obq_run.specs.Played.{sites_text, texts_of}
 use Rattle.obq_words.specs.Words.{names_of}
 use Rattle.obq_words.specs.declared.words.SiteWord.{SiteWord}
 use Rattle.obq_run.proofs.Zipped.{both_at, pair, past_names, past_outs, text_cut, text_next, whole_prefix}
@@ -25,38 +24,33 @@ pair_at sites outs k site name bytes lt is named wrote =
 pub returns-in-None-clause-whole : goal.returns-in-None-clause-whole
 returns-in-None-clause-whole g c =
     let sink = g.S.Sink in
-    let m = c.args.machine.now in
-    subst (λ t. Appends (sink.written c.args.out.now) (sink.written c.loop-k.out) t) (ap sites_text (past_outs (names_of c.args.sites.now) (output m.sites m.config) c.loop-k.k c.in-None.ensures)) c.loop-k.invariant.got
+    subst (λ t. Appends (sink.written c.args.out.now) (sink.written c.loop-k.out) t) (ap sites_text (past_outs (names_of c.args.sites.now) (texts_of c.args.texts.now) c.loop-k.k c.in-None.ensures)) c.loop-k.invariant.got
 
 pub returns-in-None-clause-prefix : goal.returns-in-None-clause-prefix
 returns-in-None-clause-prefix g c =
     let sink = g.S.Sink in
-    let m = c.args.machine.now in
     whole_prefix (sink.written c.args.out.now) (sink.written c.loop-k.out) _
-    (subst (λ t. Appends (sink.written c.args.out.now) (sink.written c.loop-k.out) t) (ap sites_text (past_outs (names_of c.args.sites.now) (output m.sites m.config) c.loop-k.k c.in-None.ensures)) c.loop-k.invariant.got)
+    (subst (λ t. Appends (sink.written c.args.out.now) (sink.written c.loop-k.out) t) (ap sites_text (past_outs (names_of c.args.sites.now) (texts_of c.args.texts.now) c.loop-k.k c.in-None.ensures)) c.loop-k.invariant.got)
 
 pub returns-clause-whole : goal.returns-clause-whole
 returns-clause-whole g c =
     let sink = g.S.Sink in
-    let m = c.args.machine.now in
     let sites = c.args.sites.now in
     let past : length (names_of sites) ≤ c.loop-k.k = omega (arith, length-map sites (λ s. s.name)) in
-    subst (λ t. Appends (sink.written c.args.out.now) (sink.written c.loop-k.out) t) (ap sites_text (past_names (names_of sites) (output m.sites m.config) c.loop-k.k past)) c.loop-k.invariant.got
+    subst (λ t. Appends (sink.written c.args.out.now) (sink.written c.loop-k.out) t) (ap sites_text (past_names (names_of sites) (texts_of c.args.texts.now) c.loop-k.k past)) c.loop-k.invariant.got
 
 pub returns-clause-prefix : goal.returns-clause-prefix
 returns-clause-prefix g c =
     let sink = g.S.Sink in
-    let m = c.args.machine.now in
     let sites = c.args.sites.now in
     let past : length (names_of sites) ≤ c.loop-k.k = omega (arith, length-map sites (λ s. s.name)) in
     whole_prefix (sink.written c.args.out.now) (sink.written c.loop-k.out) _
-    (subst (λ t. Appends (sink.written c.args.out.now) (sink.written c.loop-k.out) t) (ap sites_text (past_names (names_of sites) (output m.sites m.config) c.loop-k.k past)) c.loop-k.invariant.got)
+    (subst (λ t. Appends (sink.written c.args.out.now) (sink.written c.loop-k.out) t) (ap sites_text (past_names (names_of sites) (texts_of c.args.texts.now) c.loop-k.k past)) c.loop-k.invariant.got)
 
 pub returns-in_err-write_site-in-Some-clause-prefix : goal.returns-in_err-write_site-in-Some-clause-prefix
 returns-in_err-write_site-in-Some-clause-prefix g c =
     let sites = c.args.sites.now in
-    let m = c.args.machine.now in
-    let outs = output m.sites m.config in
+    let outs = texts_of c.args.texts.now in
     let k = c.loop-k.k in
     let lt : k < length sites = omega arith in
     let here = pair_at sites outs k c.index-sites-k.result c.as_bytes.result.now c.in-Some.bytes.now lt c.index-sites-k.is c.as_bytes.ensures c.in-Some.ensures in
@@ -66,8 +60,7 @@ pub loop-k-preserved : goal.loop-k-preserved
 loop-k-preserved g c =
     let sink = g.S.Sink in
     let sites = c.args.sites.now in
-    let m = c.args.machine.now in
-    let outs = output m.sites m.config in
+    let outs = texts_of c.args.texts.now in
     let k = c.loop-k.k in
     let lt : k < length sites = omega arith in
     let here = pair_at sites outs k c.index-sites-k.result c.as_bytes.result.now c.in-Some.bytes.now lt c.index-sites-k.is c.as_bytes.ensures c.in-Some.ensures in
