@@ -14,6 +14,7 @@ use Rattle.obq_model.specs.Scopes.{outermost}
 use Rattle.obq_model.proofs.Drafted.{drafted_block, IsDrafted}
 use Rattle.obq_scope.specs.declared.output.Output.{Output}
 use Rattle.obq_scope.specs.Emitted.{closed, emitted, next_number}
+use Rattle.obq_scope.specs.Tabled.{Tables, tabled}
 use Rattle.obq_scope.proofs.Once.{codes_push, once}
 use Rattle.obq_scope.proofs.Standing.{Knows, Stands, codes_append, knows_left, knows_right, stands}
 
@@ -32,11 +33,14 @@ known source m before (p ∷ ps) table e f = (
   next : (l : ℕ) → suc l ≡ l + 1
   next l = omega arith
 
+abbrev with_parts : List Code → List Node → Output
+with_parts cs ns = record { codes = cs; nodes = ns }
+
 -- a source's code that is whole resolves its block
 pub resolves : (source : ℕ) (tree : BlockTree) (out after : Output) (nodes : List Node) (made : SourceCode)
     → unbound tree ≡ [] → out.nodes ≡ [] → out.codes ≡ [] → after ≡ closed 0 0 nodes (emitted source (draft_block (outermost source) [] tree) out)
     → made.source ≡ source → made.main ≡ next_number source (emitted source (draft_block (outermost source) [] tree) out) → made.codes ≡ after.codes
-    → Resolves source tree made
+    → Tables source tree made
 resolves source tree out after nodes made b e c f g h k =
     let d : Draft = draft_block (outermost source) [] tree in
     let last : Output = emitted source d out in
@@ -58,19 +62,25 @@ resolves source tree out after nodes made b e c f g h k =
       code_is = record { params_are = refl; captures_are = refl; reads = subst (λ (x : List Node). IsCode fn d x []) (append-nil s.nodes ∙ sym (s.nodes_are ∙ ap (λ z. z ++ s.nodes) e)) (s.reads fn inside []) };
       made = inl (record { source = source; outside = refl; group = refl });
     } in
-    record {
-      bound = b;
-      source_is = g;
-      table = table;
-      main = ap fn h ∙ here;
-      codes = subst (λ (cs : List Code). AreCodes fn source 0 cs table) (sym (codes_are ∙ ap (λ z. z ++ code ∷ []) last_are))
-          (codes_append fn source 0 s.codes (code ∷ []) s.procs (main ∷ []) (length last.codes) (ap length last_are ∙ bare (length s.codes)) (subst (λ j. AreCodes fn source j s.codes s.procs) none (s.stand fn inside)) (it, tt));
-      once = λ j l.
-          ap (λ (m : CodeNo). times j (m ∷ all_numbers made.codes)) h
-          ∙ ap (λ (cs : List Code). times j (next_number source last ∷ all_numbers cs)) codes_are
-          ∙ ap (λ i. (if length last.codes == j then 1 else 0) + i) (codes_push j last.codes code)
-          ∙ once j source d w out e c (within j made.codes last.codes code codes_are l);
-    } where
+    let empty : out ≡ record { codes = []; nodes = [] } = bare_output out e c in (
+      record {
+        bound = b;
+        source_is = g;
+        table = table;
+        main = ap fn h ∙ here;
+        codes = subst (λ (cs : List Code). AreCodes fn source 0 cs table) (sym (codes_are ∙ ap (λ z. z ++ code ∷ []) last_are))
+            (codes_append fn source 0 s.codes (code ∷ []) s.procs (main ∷ []) (length last.codes) (ap length last_are ∙ bare (length s.codes)) (subst (λ j. AreCodes fn source j s.codes s.procs) none (s.stand fn inside)) (it, tt));
+        once = λ j l.
+            ap (λ (m : CodeNo). times j (m ∷ all_numbers made.codes)) h
+            ∙ ap (λ (cs : List Code). times j (next_number source last ∷ all_numbers cs)) codes_are
+            ∙ ap (λ i. (if length last.codes == j then 1 else 0) + i) (codes_push j last.codes code)
+            ∙ once j source d w out e c (within j made.codes last.codes code codes_are l);
+      },
+      ap (λ ps. ps ++ main ∷ []) (s.procs_are ∙ ap (tabled source d) empty),
+    ) where
+      bare_output : (o : Output) → o.nodes ≡ [] → o.codes ≡ [] → o ≡ record { codes = []; nodes = [] }
+      bare_output o n m = ap (λ (cs : List Code). with_parts cs o.nodes) m ∙ ap (λ (ns : List Node). with_parts [] ns) n
+
       bare : (l : ℕ) → l ≡ 0 + l
       bare l = omega arith
 

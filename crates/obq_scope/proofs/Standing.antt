@@ -14,6 +14,7 @@ use Rattle.obq_model.specs.Scopes.{Outside}
 use Rattle.obq_model.proofs.Drafted.{AreDrafted, IsCaptured, IsDrafted}
 use Rattle.obq_scope.specs.declared.output.Output.{Output}
 use Rattle.obq_scope.specs.Emitted.{closed, emitted, member_numbers, next_number, opened, with_members, with_node}
+use Rattle.obq_scope.specs.Tabled.{tabled, tabled_members}
 
 -- these procedures stand under the numbers from this one on
 abbrev pub Knows : (CodeNo → Option Proc) → (source first : ℕ) → List Proc → Type 0
@@ -50,16 +51,18 @@ pub record Stands (source : ℕ) (d : Draft) (before after : Output) : Type 0 wh
   pub procs : List Proc
   pub nodes_are : after.nodes ≡ before.nodes ++ nodes
   pub codes_are : after.codes ≡ before.codes ++ codes
+  pub procs_are : procs ≡ tabled source d before
   pub many : length codes ≡ length procs
   pub reads : (f : CodeNo → Option Proc) → Knows f source (length before.codes) procs → (rest : List Node) → IsCode f d (nodes ++ rest) rest
   pub stand : (f : CodeNo → Option Proc) → Knows f source (length before.codes) procs → AreCodes f source (length before.codes) codes procs
 
 -- the members of a group, from the one with this index on
-record Stand (source captures : ℕ) (u : Outside) (bs : RecBindTrees) (group : List CodeNo) (index : ℕ) (before after : Output) (numbers : List CodeNo) : Type 0 where
+record Stand (source captures : ℕ) (u : Outside) (bs : RecBindTrees) (bodies : Members) (group : List CodeNo) (index : ℕ) (before after : Output) (numbers : List CodeNo) : Type 0 where
   codes : List Code
   procs : List Proc
   nodes_are : after.nodes ≡ before.nodes
   codes_are : after.codes ≡ before.codes ++ codes
+  procs_are : procs ≡ tabled_members source captures u bs group index bodies before
   many : length codes ≡ length procs
   tells : (f : CodeNo → Option Proc) → Knows f source (length before.codes) procs → AreMembers f u group numbers index bs
   stand : (f : CodeNo → Option Proc) → Knows f source (length before.codes) procs
@@ -124,12 +127,13 @@ literal : (from : List Slot) (u : Outside) (p : ProcedureTree) → IsCaptured fr
 literal from u (AProc params b place) c = record { around = c.around; names = c.names; place = place; outside = c.outside; group = refl }
 
 -- a node behind the code of a procedure or method, and what follows
-record Behind (source : ℕ) (p : Proc) (d : Draft) (a : Node) (before inner after : Output) : Type 0 where
+record Behind (source : ℕ) (p : Proc) (body d : Draft) (a : Node) (before inner next after : Output) : Type 0 where
   rest : List Node
   codes : List Code
   procs : List Proc
   nodes_are : after.nodes ≡ before.nodes ++ a ∷ rest
   codes_are : after.codes ≡ before.codes ++ codes
+  procs_are : procs ≡ tabled source body (opened before) ++ p ∷ tabled source d next
   many : length codes ≡ length procs
   here : (f : CodeNo → Option Proc) → Knows f source (length before.codes) procs → f (next_number source inner) ≡ Some p
   reads : (f : CodeNo → Option Proc) → Knows f source (length before.codes) procs → (more : List Node) → IsCode f d (rest ++ more) more
@@ -138,7 +142,7 @@ record Behind (source : ℕ) (p : Proc) (d : Draft) (a : Node) (before inner aft
 code_behind : (source : ℕ) (from : List Slot) (u : Outside) (p : ProcedureTree) (body d : Draft) (a : Node) (before inner after : Output)
     → IsCaptured from u p → body ≡ draft_body u p
     → Stands source body (opened before) inner → Stands source d (with_node a (closed (length from) (count_params p) before.nodes inner)) after
-    → Behind source (proc_in u p [] 0) d a before inner after
+    → Behind source (proc_in u p [] 0) body d a before inner (with_node a (closed (length from) (count_params p) before.nodes inner)) after
 code_behind source from u p body d a before inner after c e b s =
     let code : Code = record { params = count_params p; captures = length from; nodes = inner.nodes } in
     record {
@@ -147,6 +151,7 @@ code_behind source from u p body d a before inner after c e b s =
       procs = b.procs ++ (proc_in u p [] 0 ∷ s.procs);
       nodes_are = s.nodes_are ∙ append_assoc before.nodes (a ∷ []) s.nodes;
       codes_are = codes_added before b code after s.codes s.codes_are;
+      procs_are = ap (λ ps. ps ++ proc_in u p [] 0 ∷ s.procs) b.procs_are ∙ ap (λ ps. tabled source body (opened before) ++ proc_in u p [] 0 ∷ ps) s.procs_are;
       many = many_added before b code (proc_in u p [] 0) s.codes s.procs s.many;
       here = λ f k. known_here before b code (proc_in u p [] 0) f s.codes s.procs k;
       reads = λ f k more. s.reads f (known_behind before b code (proc_in u p [] 0) f s.codes s.procs k) more;
@@ -161,10 +166,10 @@ code_behind source from u p body d a before inner after c e b s =
 
 mutual
   pub stands : (source : ℕ) (d : Draft) → IsDrafted d → (out : Output) → Stands source d out (emitted source d out)
-  stands source Done w out = record { nodes = []; codes = []; procs = []; nodes_are = sym (append-nil out.nodes); codes_are = sym (append-nil out.codes); many = refl; reads = λ f k rest. refl; stand = λ f k. tt }
+  stands source Done w out = record { nodes = []; codes = []; procs = []; nodes_are = sym (append-nil out.nodes); codes_are = sym (append-nil out.codes); procs_are = refl; many = refl; reads = λ f k rest. refl; stand = λ f k. tt }
   stands source (Plain a d) w out =
       let s : Stands source d (with_node a out) (emitted source d (with_node a out)) = stands source d w.2 (with_node a out) in
-      record { nodes = a ∷ s.nodes; codes = s.codes; procs = s.procs; nodes_are = s.nodes_are ∙ append_assoc out.nodes (a ∷ []) s.nodes; codes_are = s.codes_are; many = s.many; reads = λ f k rest. (s.nodes ++ rest, refl, s.reads f k rest); stand = s.stand }
+      record { nodes = a ∷ s.nodes; codes = s.codes; procs = s.procs; nodes_are = s.nodes_are ∙ append_assoc out.nodes (a ∷ []) s.nodes; codes_are = s.codes_are; procs_are = s.procs_are; many = s.many; reads = λ f k rest. (s.nodes ++ rest, refl, s.reads f k rest); stand = s.stand }
   stands source (Both d e) w out =
       let mid : Output = emitted source d out in
       let s : Stands source d out mid = stands source d w.0 out in
@@ -176,6 +181,7 @@ mutual
         procs = s.procs ++ t.procs;
         nodes_are = t.nodes_are ∙ ap (λ z. z ++ t.nodes) s.nodes_are ∙ append_assoc out.nodes s.nodes t.nodes;
         codes_are = t.codes_are ∙ ap (λ z. z ++ t.codes) s.codes_are ∙ append_assoc out.codes s.codes t.codes;
+        procs_are = ap (λ ps. ps ++ t.procs) s.procs_are ∙ ap (λ ps. tabled source d out ++ ps) t.procs_are;
         many = length-append s.codes t.codes ∙ ap (λ j. j + length t.codes) s.many ∙ ap (λ j. length s.procs + j) t.many ∙ sym (length-append s.procs t.procs);
         reads = λ f k rest. (
           t.nodes ++ rest,
@@ -188,20 +194,20 @@ mutual
   stands source (Closure from u p body d) w out =
       let inner : Output = emitted source body (opened out) in
       let a : Node = n.Proc (next_number source inner) from in
-      let b : Behind source (proc_in u p [] 0) d a out inner (emitted source d (with_node a (closed (length from) (count_params p) out.nodes inner)))
+      let b : Behind source (proc_in u p [] 0) body d a out inner (with_node a (closed (length from) (count_params p) out.nodes inner)) (emitted source d (with_node a (closed (length from) (count_params p) out.nodes inner)))
       = code_behind source from u p body d a out inner _ w.0 w.1 (stands source body w.2 (opened out)) (stands source d w.3 _) in
-      record { nodes = a ∷ b.rest; codes = b.codes; procs = b.procs; nodes_are = b.nodes_are; codes_are = b.codes_are; many = b.many; reads = λ f k rest. (next_number source inner, b.rest ++ rest, refl, b.here f k, b.reads f k rest); stand = b.stand }
+      record { nodes = a ∷ b.rest; codes = b.codes; procs = b.procs; nodes_are = b.nodes_are; codes_are = b.codes_are; procs_are = b.procs_are; many = b.many; reads = λ f k rest. (next_number source inner, b.rest ++ rest, refl, b.here f k, b.reads f k rest); stand = b.stand }
   stands source (Method from u p body d) w out =
       let inner : Output = emitted source body (opened out) in
       let a : Node = n.Meth (next_number source inner) from in
-      let b : Behind source (proc_in u p [] 0) d a out inner (emitted source d (with_node a (closed (length from) (count_params p) out.nodes inner)))
+      let b : Behind source (proc_in u p [] 0) body d a out inner (with_node a (closed (length from) (count_params p) out.nodes inner)) (emitted source d (with_node a (closed (length from) (count_params p) out.nodes inner)))
       = code_behind source from u p body d a out inner _ w.0 w.1 (stands source body w.2 (opened out)) (stands source d w.3 _) in
-      record { nodes = a ∷ b.rest; codes = b.codes; procs = b.procs; nodes_are = b.nodes_are; codes_are = b.codes_are; many = b.many; reads = λ f k rest. (next_number source inner, b.rest ++ rest, refl, b.here f k, b.reads f k rest); stand = b.stand }
+      record { nodes = a ∷ b.rest; codes = b.codes; procs = b.procs; nodes_are = b.nodes_are; codes_are = b.codes_are; procs_are = b.procs_are; many = b.many; reads = λ f k rest. (next_number source inner, b.rest ++ rest, refl, b.here f k, b.reads f k rest); stand = b.stand }
   stands source (Group from u bs bodies d) w out =
       let inner : Output = with_members source (length from) bs bodies out in
       let numbers : List CodeNo = member_numbers source (length from) bs bodies out in
       let a : Node = n.LetRec numbers from in
-      let m : Stand source (length from) u bs numbers 0 out inner numbers = members_stand source (length from) u bs bodies w.0.many numbers 0 w.1 out in
+      let m : Stand source (length from) u bs bodies numbers 0 out inner numbers = members_stand source (length from) u bs bodies w.0.many numbers 0 w.1 out in
       let s : Stands source d (with_node a inner) (emitted source d (with_node a inner)) = stands source d w.2 (with_node a inner) in
       let here : length inner.codes ≡ length out.codes + length m.codes = ap length m.codes_are ∙ length-append out.codes m.codes in
       record {
@@ -210,6 +216,7 @@ mutual
         procs = m.procs ++ s.procs;
         nodes_are = s.nodes_are ∙ append_assoc inner.nodes (a ∷ []) s.nodes ∙ ap (λ z. z ++ (a ∷ s.nodes)) m.nodes_are;
         codes_are = s.codes_are ∙ ap (λ z. z ++ s.codes) m.codes_are ∙ append_assoc out.codes m.codes s.codes;
+        procs_are = ap (λ ps. ps ++ s.procs) m.procs_are ∙ ap (λ ps. tabled_members source (length from) u bs numbers 0 bodies out ++ ps) s.procs_are;
         many = length-append m.codes s.codes ∙ ap (λ j. j + length s.codes) m.many ∙ ap (λ j. length m.procs + j) s.many ∙ sym (length-append m.procs s.procs);
         reads = λ f k rest. (
           numbers,
@@ -228,8 +235,8 @@ mutual
         none_more j = omega arith
 
   members_stand : (source captures : ℕ) (u : Outside) (bs : RecBindTrees) (bodies : Members) → captures ≡ length u.captured → (group : List CodeNo) (index : ℕ) → AreDrafted u bs bodies → (out : Output)
-      → Stand source captures u bs group index out (with_members source captures bs bodies out) (member_numbers source captures bs bodies out)
-  members_stand source captures u NoRecBinds NoMembers g group index w out = record { codes = []; procs = []; nodes_are = refl; codes_are = sym (append-nil out.codes); many = refl; tells = λ f k. tt; stand = λ f k grouped place. tt }
+      → Stand source captures u bs bodies group index out (with_members source captures bs bodies out) (member_numbers source captures bs bodies out)
+  members_stand source captures u NoRecBinds NoMembers g group index w out = record { codes = []; procs = []; nodes_are = refl; codes_are = sym (append-nil out.codes); procs_are = refl; many = refl; tells = λ f k. tt; stand = λ f k grouped place. tt }
   members_stand source captures u NoRecBinds (AMember body bodies) g group index w out = absurd w
   members_stand source captures u (ARecBind x p place bs) NoMembers g group index w out = absurd w
   members_stand source captures u (ARecBind x p place bs) (AMember body bodies) g group index w out =
@@ -237,7 +244,7 @@ mutual
       let code : Code = record { params = count_params p; captures = captures; nodes = inner.nodes } in
       let b : Stands source body (opened out) inner = stands source body w.1 (opened out) in
       let next : Output = closed captures (count_params p) out.nodes inner in
-      let m : Stand source captures u bs group (suc index) next (with_members source captures bs bodies next) (member_numbers source captures bs bodies next)
+      let m : Stand source captures u bs bodies group (suc index) next (with_members source captures bs bodies next) (member_numbers source captures bs bodies next)
       = members_stand source captures u bs bodies g group (suc index) w.2 next in
       let it : Proc = proc_in u p group index in
       record {
@@ -245,6 +252,7 @@ mutual
         procs = b.procs ++ (it ∷ m.procs);
         nodes_are = m.nodes_are;
         codes_are = codes_added out b code (with_members source captures bs bodies next) m.codes m.codes_are;
+        procs_are = ap (λ ps. ps ++ it ∷ m.procs) b.procs_are ∙ ap (λ ps. tabled source body (opened out) ++ it ∷ ps) m.procs_are;
         many = many_added out b code it m.codes m.procs m.many;
         tells = λ f k. (known_here out b code it f m.codes m.procs k, m.tells f (known_behind out b code it f m.codes m.procs k));
         stand = λ f k grouped places. stand_all out b code it f m.codes m.procs k

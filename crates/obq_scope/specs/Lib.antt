@@ -6,3 +6,4 @@ pub mod Refused
 pub mod Outsides
 pub mod Narrowed
 pub mod Sizes
+pub mod Tabled

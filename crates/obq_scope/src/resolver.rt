@@ -3,7 +3,7 @@
 ghost use Rattle.std.specs.Prelude.{◌≡◌, ◌<◌, ◌≤◌, ◌^◌, [], All, Contains, IfErr, IfOk, MatchOption, filter, not};
 ghost use Rattle.obq_base.specs.View.{block_tree};
 ghost use Rattle.obq_model.specs.Occurrences.{IsFirstUnbound, is_predefined, unbound};
-ghost use Rattle.obq_model.specs.Resolved.{Resolves};
+ghost use Rattle.obq_scope.specs.Tabled.{Tables};
 ghost use Rattle.obq_names.specs.Captures.{captures_block};
 ghost use Rattle.obq_scope.specs.Refused.{IfUnbound};
 ghost use Rattle.obq_scope.specs.Sizes.{size_block};
@@ -79,7 +79,7 @@ fn make_code(
     requires bound { unbound (block_tree block.now) ≡ [] }
     requires captured { captures ≡ captures_block [] (block_tree block.now) }
     requires small { size_block (block_tree block.now) < 2 ^ 32 }
-    ensures { IfOk result (λ made. Resolves source (block_tree block.now) made) }
+    ensures { IfOk result (Tables source (block_tree block.now)) }
 {
     let mut coder = Coder::new(alloc, source, captures);
     let main = emit_body(&mut coder, &[], block)?;
@@ -97,7 +97,7 @@ fn make_code(
 /// limit is of such a size.
 pub fn resolve(alloc: Global, source: u16, block: &Block) -> Result<SourceCode, ScopeRefused>
     requires { size_block (block_tree block.now) < 2 ^ 32 }
-    ensures code { IfOk result (λ made. Resolves source (block_tree block.now) made) }
+    ensures code { IfOk result (Tables source (block_tree block.now)) }
     ensures refused { IfErr result (λ why. IfUnbound why (IsFirstUnbound (block_tree block.now))) }
 {
     let Names { free, captures } = find_names(alloc, block)?;
