@@ -7,9 +7,9 @@ use Rattle.obq_base.specs.declared.faults.SourceFault.{SourceFault}
 use Rattle.obq_base.specs.declared.tokens.Token.{Token}
 use Rattle.obq_base.specs.declared.trees.Block.{Block}
 use Rattle.obq_base.specs.View.{block_tree}
-use Rattle.obq_model.specs.Resolved.{AreResolved, Resolves}
+use Rattle.obq_scope.specs.Tabled.{Tables}
 use Rattle.obq_model.specs.Sources.{AreAccepted, IsAccepted, IsFault, IsFirstRefused, here, later}
-use Rattle.obq_front.specs.Contents.{AllWithin, IsProgram, contents, names_of}
+use Rattle.obq_front.specs.Contents.{AllWithin, AreTabled, IsProgram, contents, names_of}
 use Rattle.obq_front.specs.Gathering.{Adds}
 use Rattle.obq_front.specs.Refusals.{IfFault, IfRefused, refused_at}
 use Rattle.obq_front.specs.declared.gathered.Gathered.{Gathered}
@@ -23,28 +23,28 @@ use Rattle.obq_front.specs.declared.single.SourceRefused.TheVariants as single
 -- what is left to examine, from source i on, completes these trees and codes to those of the whole
 abbrev pub Completes : ℕ → List (List ℕ) → List (List ℕ) → List Block → List SourceCode → Type 0
 Completes i left whole blocks parts =
-    (bs : List Block) (ps : List SourceCode) → AreAccepted left bs → AreResolved i bs ps → AreAccepted whole (blocks ++ bs) × AreResolved 0 (blocks ++ bs) (parts ++ ps)
+    (bs : List Block) (ps : List SourceCode) → AreAccepted left bs → AreTabled i bs ps → AreAccepted whole (blocks ++ bs) × AreTabled 0 (blocks ++ bs) (parts ++ ps)
 
 -- and its first fault is that of the whole
 abbrev pub Refuses : ℕ → List (List ℕ) → List (List ℕ) → Type 0
 Refuses i left whole = (k : ℕ) (fault : SourceFault) → IsFirstRefused left k fault → IsFirstRefused whole (i + k) fault
 
 completes_behind : (i : ℕ) (source : List ℕ) (left whole : List (List ℕ)) (blocks : List Block) (parts : List SourceCode) (tokens : List Token) (block : Block) (part : SourceCode)
-    → IsAccepted source tokens block → Resolves i (block_tree block) part → Completes i (source ∷ left) whole blocks parts
+    → IsAccepted source tokens block → Tables i (block_tree block) part → Completes i (source ∷ left) whole blocks parts
     → Completes (i + 1) left whole (blocks ++ block ∷ []) (parts ++ part ∷ [])
 completes_behind i source left whole blocks parts tokens block part accepted resolved more = λ bs ps rest codes.
     let next : i + 1 ≡ suc i = omega arith in
-    let behind : AreResolved (suc i) bs ps = subst (λ n. AreResolved n bs ps) next codes in
-    let found : AreAccepted whole (blocks ++ block ∷ bs) × AreResolved 0 (blocks ++ block ∷ bs) (parts ++ part ∷ ps) = more (block ∷ bs) (part ∷ ps) ((tokens, accepted), rest) (resolved, behind) in
-    let moved : AreAccepted whole (blocks ++ block ∷ [] ++ bs) × AreResolved 0 (blocks ++ block ∷ [] ++ bs) (parts ++ part ∷ ps) =
-    subst (λ x. AreAccepted whole x × AreResolved 0 x (parts ++ part ∷ ps)) (sym (append_assoc blocks (block ∷ []) bs)) found in
-    subst (λ y. AreAccepted whole (blocks ++ block ∷ [] ++ bs) × AreResolved 0 (blocks ++ block ∷ [] ++ bs) y) (sym (append_assoc parts (part ∷ []) ps)) moved
+    let behind : AreTabled (suc i) bs ps = subst (λ n. AreTabled n bs ps) next codes in
+    let found : AreAccepted whole (blocks ++ block ∷ bs) × AreTabled 0 (blocks ++ block ∷ bs) (parts ++ part ∷ ps) = more (block ∷ bs) (part ∷ ps) ((tokens, accepted), rest) (resolved, behind) in
+    let moved : AreAccepted whole (blocks ++ block ∷ [] ++ bs) × AreTabled 0 (blocks ++ block ∷ [] ++ bs) (parts ++ part ∷ ps) =
+    subst (λ x. AreAccepted whole x × AreTabled 0 x (parts ++ part ∷ ps)) (sym (append_assoc blocks (block ∷ []) bs)) found in
+    subst (λ y. AreAccepted whole (blocks ++ block ∷ [] ++ bs) × AreTabled 0 (blocks ++ block ∷ [] ++ bs) y) (sym (append_assoc parts (part ∷ []) ps)) moved
 
 -- nothing is left
-completed : (i : ℕ) (whole : List (List ℕ)) (blocks : List Block) (parts : List SourceCode) → Completes i [] whole blocks parts → AreAccepted whole blocks × AreResolved 0 blocks parts
+completed : (i : ℕ) (whole : List (List ℕ)) (blocks : List Block) (parts : List SourceCode) → Completes i [] whole blocks parts → AreAccepted whole blocks × AreTabled 0 blocks parts
 completed i whole blocks parts more =
-    let moved : AreAccepted whole blocks × AreResolved 0 blocks (parts ++ []) = subst (λ x. AreAccepted whole x × AreResolved 0 x (parts ++ [])) (append-nil blocks) (more [] [] tt tt) in
-    subst (λ y. AreAccepted whole blocks × AreResolved 0 blocks y) (append-nil parts) moved
+    let moved : AreAccepted whole blocks × AreTabled 0 blocks (parts ++ []) = subst (λ x. AreAccepted whole x × AreTabled 0 x (parts ++ [])) (append-nil blocks) (more [] [] tt tt) in
+    subst (λ y. AreAccepted whole blocks × AreTabled 0 blocks y) (append-nil parts) moved
 
 -- ---- one source more
 
@@ -83,14 +83,14 @@ program_of i sources made program none names blocks codes named more within =
     let last : made.names.items ++ [] ≡ names_of sources = subst (λ ss. made.names.items ++ names_of ss ≡ names_of sources) none named in
     let over : Completes i [] (contents sources) made.blocks.items made.parts.items =
     subst (λ ss. Completes i (contents ss) (contents sources) made.blocks.items made.parts.items) none more in
-    let both : AreAccepted (contents sources) made.blocks.items × AreResolved 0 made.blocks.items made.parts.items = completed i (contents sources) made.blocks.items made.parts.items over in
-    let moved : AreAccepted (contents sources) program.blocks.items × AreResolved 0 program.blocks.items made.parts.items =
-    subst (λ x. AreAccepted (contents sources) x × AreResolved 0 x made.parts.items) (sym blocks) both in
+    let both : AreAccepted (contents sources) made.blocks.items × AreTabled 0 made.blocks.items made.parts.items = completed i (contents sources) made.blocks.items made.parts.items over in
+    let moved : AreAccepted (contents sources) program.blocks.items × AreTabled 0 program.blocks.items made.parts.items =
+    subst (λ x. AreAccepted (contents sources) x × AreTabled 0 x made.parts.items) (sym blocks) both in
     record {
       within = within;
       names = names ∙ (sym (append-nil made.names.items) ∙ last);
       accepted = moved.0;
-      resolved = subst (λ y. AreResolved 0 program.blocks.items y) (sym codes) moved.1;
+      resolved = subst (λ y. AreTabled 0 program.blocks.items y) (sym codes) moved.1;
     }
 
 -- the next source, and those behind it

@@ -4,7 +4,7 @@ ghost use Rattle.std.specs.Prelude.{◌≡◌, ◌≤◌, IfErr, IfOk, List, len
 ghost use Rattle.obq_base.specs.declared.tokens.Token.{Token};
 ghost use Rattle.obq_base.specs.View.{block_tree};
 ghost use Rattle.obq_model.specs.Grammar.{Derives};
-ghost use Rattle.obq_model.specs.Resolved.{Resolves};
+ghost use Rattle.obq_scope.specs.Tabled.{Tables};
 ghost use Rattle.obq_model.specs.Sources.{IsAccepted, IsFault};
 ghost use Rattle.obq_model.specs.Tokens.{IsReading};
 ghost use Rattle.obq_front.specs.Refusals.{IfFault};
@@ -67,7 +67,7 @@ fn read_tree(alloc: Global, source: &[u8]) -> Result<Block, SourceRefused>
 pub fn examine_one(alloc: Global, number: u16, source: &[u8]) -> Result<Part, SourceRefused>
     requires { length source.now ≤ SOURCE_LIMIT }
     ensures accepted { IfOk result (λ part. (tokens : List Token) × IsAccepted source.now tokens part.block) }
-    ensures resolved { IfOk result (λ part. Resolves number (block_tree part.block) part.code) }
+    ensures resolved { IfOk result (λ part. Tables number (block_tree part.block) part.code) }
     ensures fault { IfErr result (λ why. IfFault why (IsFault source.now)) }
 {
     let block = read_tree(alloc, source)?;
