@@ -1,2 +1,1 @@
--- What codes, windows and a site mean.
-use Rattle.obq_host.specs.Meanings
+pub mod Meanings
