@@ -15,7 +15,7 @@ use Rattle.obq_stands.proofs.Update.{same_or}
 use Rattle.obq_world.specs.Acts.{AgainWaits, AtCellWaits, JoiningWaits, WaitsHere, WaitsIn}
 use Rattle.obq_world.specs.Calls.{AllIdle, AllStopped, IsStopped, NobodyClaims}
 use Rattle.obq_world.specs.Meaning.{Meaning}
-use Rattle.obq_world.specs.State.{EndsOver, IsAlone, SiteReads, State, WasOver, WorldStands, used_in}
+use Rattle.obq_world.specs.State.{EndsOver, IsAlone, SiteReads, State, WorldStands, used_in}
 use Rattle.obq_world.specs.declared.slots.ThreadSlot.{ThreadSlot}
 use Rattle.obq_world.proofs.Reading.{running, windowed}
 
@@ -79,12 +79,10 @@ idle m blocks turns w inv stopped =
     waits s t x e = let no = inv.alone.waits s t in absurd (cc (no, e))
 
 -- so it is where no claim is out and each thread without one has stopped
-pub over_told : {C W S : Type 0} (m : Meaning C W S) (blocks : List BlockTree) (turns limit : ℕ) (w : State S) (out : Bool) (entries : ℕ)
-    → WorldStands m blocks turns w → limit ≡ turns → AllIdle m w.site w.slots limit → MatchBool out (Any (λ s. s.claimed ≡ true) w.slots) (NobodyClaims w.slots) → out ≡ false → entries ≡ length w.journal → WasOver blocks turns entries
-over_told m blocks turns limit w true entries inv limit_is rest claims out long = absurd (cc out)
-over_told m blocks turns limit w false entries inv limit_is rest claims out long =
-    let over = idle m blocks turns w inv stopped in
-    (w.journal, over.0, sym long, over.1, over.2)
+pub over_told : {C W S : Type 0} (m : Meaning C W S) (blocks : List BlockTree) (turns limit : ℕ) (w : State S) (out : Bool)
+    → WorldStands m blocks turns w → limit ≡ turns → AllIdle m w.site w.slots limit → MatchBool out (Any (λ s. s.claimed ≡ true) w.slots) (NobodyClaims w.slots) → out ≡ false → EndsOver blocks turns w.journal
+over_told m blocks turns limit w true inv limit_is rest claims out = absurd (cc out)
+over_told m blocks turns limit w false inv limit_is rest claims out = idle m blocks turns w inv stopped
   where
     stopped : AllStopped m w.site w.slots turns
     stopped t slot e =

@@ -1,9 +1,8 @@
-mod Plain
 mod Reading
 mod Keeps
 mod May
+mod Begun
 mod Idle
-mod Installs
-mod Commits
+mod Onward
 mod Counting
 mod Reported
