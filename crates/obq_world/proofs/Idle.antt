@@ -15,7 +15,7 @@ use Rattle.obq_stands.proofs.Update.{same_or}
 use Rattle.obq_world.specs.Acts.{AgainWaits, AtCellWaits, JoiningWaits, WaitsHere, WaitsIn}
 use Rattle.obq_world.specs.Calls.{AllIdle, AllStopped, IsStopped, NobodyClaims}
 use Rattle.obq_world.specs.Meaning.{Meaning}
-use Rattle.obq_world.specs.State.{EndsOver, IsAlone, SiteReads, State, WorldStands, used_in}
+use Rattle.obq_world.specs.State.{EndsOver, IsAlone, SiteReads, State, WasOver, WorldStands, used_in}
 use Rattle.obq_world.specs.declared.slots.ThreadSlot.{ThreadSlot}
 use Rattle.obq_world.proofs.Reading.{running, windowed}
 
@@ -89,3 +89,9 @@ over_told m blocks turns limit w false inv limit_is rest claims out = idle m blo
         let lt : t < length w.slots = get_below w.slots t slot e in
         let free : slot.claimed ≡ false = subst (λ (s : ThreadSlot). s.claimed ≡ false) (get_or_from_slice_get w.slots t slot slot e) (claims t slot lt) in
         subst (λ n. IsStopped m w.site slot n t) limit_is (rest t slot e free)
+
+pub seen_over : {C W S : Type 0} (m : Meaning C W S) (blocks : List BlockTree) (turns limit : ℕ) (w : State S) (out : Bool) (entries : ℕ)
+    → WorldStands m blocks turns w → limit ≡ turns → AllIdle m w.site w.slots limit → MatchBool out (Any (λ s. s.claimed ≡ true) w.slots) (NobodyClaims w.slots) → out ≡ false → entries ≡ length w.journal → WasOver blocks turns entries
+seen_over m blocks turns limit w out entries inv limit_is rest claims none long =
+    let over = over_told m blocks turns limit w out inv limit_is rest claims none in
+    (w.journal, over.0, sym long, over.1, over.2)

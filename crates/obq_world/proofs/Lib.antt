@@ -3,6 +3,8 @@ mod Keeps
 mod May
 mod Begun
 mod Idle
+mod Plain
 mod Onward
+mod Taking
 mod Counting
 mod Reported

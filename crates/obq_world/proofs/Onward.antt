@@ -14,8 +14,7 @@ use Rattle.obq_model.specs.Terms.{Term}
 use Rattle.obq_stands.specs.World.{Ending, Heap, Ref, with_at}
 use Rattle.obq_stands.proofs.Update.{same_or, with_at_other, with_at_same}
 use Rattle.obq_world.specs.Acts.{CanAct, DidAct, DidIn, DoesRow, EndsHere, ForksOff, HasTooMany, IsDue, IsRunOn, JoinsWith, Leaves, MakesCell, Rewinds, cells_made}
-use Rattle.obq_world.specs.Calls.{stops_at_act}
-use Rattle.obq_world.specs.Entries.{TakesMore, act_in, made_in, slots_made, spent, turns_of}
+use Rattle.obq_world.specs.Entries.{TakesMore, act_in, entries_of, made_in, slots_made, spent, stops_at_act, turns_of}
 use Rattle.obq_world.specs.Going.{AskedCases, ComesOf, GoesOn, IsNoted, MayGo}
 use Rattle.obq_world.specs.Meaning.{IsRunning, Meaning, Runs, StopsAs}
 use Rattle.obq_world.specs.State.{State, WorldStands, used_in}
@@ -27,8 +26,9 @@ use Rattle.obq_world.specs.declared.machine.Stop.TheVariants as stop
 use Rattle.obq_world.specs.declared.machine.Tried.{Tried}
 use Rattle.obq_world.specs.declared.machine.Tried.TheVariants as tried
 use Rattle.obq_world.specs.declared.slots.ThreadSlot.{ThreadSlot}
-use Rattle.obq_world.proofs.Keeps.{acts_keep, steps_keep}
+use Rattle.obq_world.proofs.Keeps.{acts_keep, quiet_keeps, steps_keep}
 use Rattle.obq_world.proofs.May.{can_act}
+use Rattle.obq_world.proofs.Plain.{no_steps, some_steps}
 
 -- ---- windows
 
@@ -141,18 +141,18 @@ told_left n left b told = let e = (both (nat_lt n left) b told).0 in grind (arit
 
 pub goes_by : {C W S : Type 0} (m : Meaning C W S) (old : S) (t most left cells threads : ℕ) (slice : Slice) (mid : S) (wanted : Bool) (tr : Tried) (new : S)
     → IsRunOn m old t most slice mid → most ≤ left → wanted ≡ (nat_lt slice.steps left && stops_at_act slice.stop) → AskedCases m mid t cells threads wanted tr new
-    → GoesOn m old t left cells threads (record { steps = slice.steps; tried = tr }) new
+    → GoesOn m old t left cells threads (record { steps = slice.steps; stop = slice.stop; tried = tr }) new
 goes_by m old t most left cells threads slice mid wanted tr new r le is asked =
     let few = r.few in
     record { few = omega (arith, few, le); window = r.window; runs = r.runs; comes = by tr asked }
   where
-    by : (z : Tried) → AskedCases m mid t cells threads wanted z new → ComesOf m old t r.window slice.steps left cells threads z new
+    by : (z : Tried) → AskedCases m mid t cells threads wanted z new → ComesOf m old t r.window cells threads (nat_lt slice.steps left && stops_at_act slice.stop) z new
     by (tried.Did a made) h =
         let v = window_of m old t r.window mid r.rewinds in
-        (told_left slice.steps left (stops_at_act slice.stop) (sym is ∙ h.0), did_in_behind m old mid t cells threads r.window r.window a made new r.rewinds (h.1 r.window v), h.2)
+        (sym is ∙ h.0, did_in_behind m old mid t cells threads r.window r.window a made new r.rewinds (h.1 r.window v), h.2)
     by tried.Waits h =
         let v = window_of m old t r.window mid r.rewinds in
-        twice m old t r.window r.window mid new r.rewinds (h r.window v)
+        (twice m old t r.window r.window mid new r.rewinds (h.0 r.window v), λ told. h.1 (is ∙ told))
 
 -- ---- the World behind it
 
@@ -163,25 +163,51 @@ pub may_go : {C W S : Type 0} (m : Meaning C W S) (blocks : List BlockTree) (tur
     → MayGo m blocks (length w.slots) w.site t (turns - x.used)
 may_go m blocks turns w t x inv at own n start window here runs le = can_act m blocks turns w t n x start window inv here runs at (omega (arith, own, le))
 
+steps_or_none : {C W S : Type 0} (m : Meaning C W S) (blocks : List BlockTree) (turns : ℕ) (w : State S) (t n : ℕ) (x : ThreadSlot) (start window : W) (site : S)
+    → WorldStands m blocks turns w → m.windows w.site t ≡ Some start → Runs m start n window → slice_get w.slots t ≡ Some x → x.used + n ≤ turns → Rewinds m w.site t window site
+    → WorldStands m blocks turns (record { site = site; slots = slice_set w.slots t (spent x n); cells = w.cells; journal = w.journal ++ entries_of t n None })
+steps_or_none m blocks turns w t n x start window site inv here runs at fits r = by (same_or n 0)
+  where
+    by : ((n ≡ 0) ⊎ (n ≡ 0 → ⊥)) → WorldStands m blocks turns (record { site = site; slots = slice_set w.slots t (spent x n); cells = w.cells; journal = w.journal ++ entries_of t n None })
+    by (inl none) =
+        let runs0 : Runs m start 0 window = subst (λ k. Runs m start k window) none runs in
+        rw (← no_steps w.journal t n none, none) (quiet_keeps m blocks turns w t x start window site inv here runs0 at r)
+    by (inr some) = rw (← some_steps t n some) (steps_keep m blocks turns w t n x start window site inv here runs at fits r)
+
 pub gone_stands : {C W S : Type 0} (m : Meaning C W S) (blocks : List BlockTree) (turns : ℕ) (w : State S) (t : ℕ) (x : ThreadSlot) (gone : Gone) (site : S) (slots2 : List ThreadSlot) (journal2 : List Entry) (count : ℕ)
     → WorldStands m blocks turns w → IsRunning m w.site t → slice_get w.slots t ≡ Some x → x.used ≤ turns → GoesOn m w.site t (turns - x.used) w.cells (length w.slots) gone site → IsNoted w.slots w.journal w.cells t gone slots2 journal2 count
     → WorldStands m blocks turns (record { site = site; slots = slots2; cells = count; journal = journal2 })
 gone_stands m blocks turns w t x gone site slots2 journal2 count inv running at own_turns goes noted =
     by gone.tried goes.comes (noted.slots_are x at) noted.journal_is noted.count_is
   where
-    by : (z : Tried) → ComesOf m w.site t goes.window gone.steps (turns - x.used) w.cells (length w.slots) z site → slots2 ≡ slice_set w.slots t (spent x (gone.steps + act_turns (act_in z))) ++ slots_made (made_in z)
-        → journal2 ≡ w.journal ++ entry_of t gone.steps (act_in z) ∷ [] → count ≡ cells_made (made_in z) w.cells → WorldStands m blocks turns (record { site = site; slots = slots2; cells = count; journal = journal2 })
+    by : (z : Tried) → ComesOf m w.site t goes.window w.cells (length w.slots) (nat_lt gone.steps (turns - x.used) && stops_at_act gone.stop) z site → slots2 ≡ slice_set w.slots t (spent x (gone.steps + act_turns (act_in z))) ++ slots_made (made_in z)
+        → journal2 ≡ w.journal ++ entries_of t gone.steps (act_in z) → count ≡ cells_made (made_in z) w.cells → WorldStands m blocks turns (record { site = site; slots = slots2; cells = count; journal = journal2 })
     by (tried.Did a made) h sl jn ct =
-        let less = h.0 in
+        let less = told_left gone.steps (turns - x.used) (stops_at_act gone.stop) h.0 in
         rw (sl, jn, ct) (acts_keep m blocks turns w t gone.steps x running.0 goes.window a made site inv running.1 (goes.runs running.0 running.1) at (omega (arith, less, own_turns)) h.1 h.2)
     by tried.Waits h sl jn ct =
         let few = goes.few in
         let same : gone.steps + 0 ≡ gone.steps = omega arith in
         let e : slots2 ≡ slice_set w.slots t (spent x gone.steps) = sl ∙ append-nil (slice_set w.slots t (spent x (gone.steps + 0))) ∙ ap (λ k. slice_set w.slots t (spent x k)) same in
-        rw (e, jn, ct) (steps_keep m blocks turns w t gone.steps x running.0 goes.window site inv running.1 (goes.runs running.0 running.1) at (omega (arith, few, own_turns)) h)
+        rw (e, jn, ct) (steps_or_none m blocks turns w t gone.steps x running.0 goes.window site inv running.1 (goes.runs running.0 running.1) at (omega (arith, few, own_turns)) h.0)
+
+none_taken : (n : ℕ) (a : Option Act) → n + act_turns a ≡ 0 → (n ≡ 0) × (a ≡ None)
+none_taken n None e = (omega (arith, e), refl)
+none_taken n (Some a) e = absurd (omega (arith, e))
+
+-- the journal behind what took no turn, and behind what took some
+pub same_journal : (journal : List Entry) (t : ℕ) (gone : Gone) → turns_of gone ≡ 0 → journal ≡ journal ++ entries_of t gone.steps (act_in gone.tried)
+same_journal journal t gone none =
+    let e = none_taken gone.steps (act_in gone.tried) none in
+    rw e.1 (no_steps journal t gone.steps e.0)
+
+pub one_entry : (t n : ℕ) (a : Option Act) → (n + act_turns a ≡ 0 → ⊥) → entry_of t n a ∷ [] ≡ entries_of t n a
+one_entry t n (Some a) some = refl
+one_entry t n None some = some_steps t n (λ none. some (omega (arith, none)))
 
 pub takes_more : (slots slots2 : List ThreadSlot) (journal journal2 : List Entry) (cells t count : ℕ) (gone : Gone) → IsNoted slots journal cells t gone slots2 journal2 count → (turns_of gone ≡ 0 → ⊥) → TakesMore journal journal2
-takes_more slots slots2 journal journal2 cells t count gone noted some = (entry_of t gone.steps (act_in gone.tried), noted.journal_is, some)
+takes_more slots slots2 journal journal2 cells t count gone noted some =
+    (entry_of t gone.steps (act_in gone.tried), noted.journal_is ∙ ap (λ (es : List Entry). journal ++ es) (sym (one_entry t gone.steps (act_in gone.tried) some)), some)
 
 -- so it is with the limit and the number of threads as the calls tell them
 pub stands_behind : {C W S : Type 0} (m : Meaning C W S) (blocks : List BlockTree) (turns limit threads : ℕ) (w : State S) (t : ℕ) (x : ThreadSlot) (gone : Gone) (site : S) (slots2 : List ThreadSlot) (journal2 : List Entry) (count : ℕ)

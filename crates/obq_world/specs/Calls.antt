@@ -1,13 +1,11 @@
 -- What the calls of a World do.
-use Rattle.std.specs.Prelude.{All, Bool, List, Some, false, slice_get, true, ℕ, ◌≡◌, ◌≤◌, ◌⊎◌}
+use Rattle.std.specs.Prelude.{All, List, Some, false, slice_get, ℕ, ◌≡◌, ◌≤◌, ◌⊎◌}
 use Rattle.obq_base.specs.Tree.{BlockTree}
 use Rattle.obq_base.specs.declared.acts.Entry.{Entry}
 use Rattle.obq_world.specs.Acts.{WaitsHere}
 use Rattle.obq_world.specs.Entries.{TakesMore}
 use Rattle.obq_world.specs.Meaning.{Meaning, IsRunning}
 use Rattle.obq_world.specs.State.{EndsOver}
-use Rattle.obq_world.specs.declared.machine.Stop.{Stop}
-use Rattle.obq_world.specs.declared.machine.Stop.TheVariants as stop
 use Rattle.obq_world.specs.declared.slots.ThreadSlot.{ThreadSlot}
 use Rattle.obq_world.specs.declared.world.Advanced.{Advanced}
 use Rattle.obq_world.specs.declared.world.Advanced.TheVariants as advanced
@@ -25,12 +23,6 @@ AllIdle m site slots turns = (t : ℕ) (slot : ThreadSlot) → slice_get slots t
 
 abbrev pub NobodyClaims : List ThreadSlot → Type 0
 NobodyClaims slots = All (λ s. s.claimed ≡ false) slots
-
--- an act is due
-abbrev pub stops_at_act : Stop → Bool
-stops_at_act stop.Most = false
-stops_at_act stop.Needs = true
-stops_at_act stop.Bottom = true
 
 -- one entry more; or nothing changed, as where no thread can go the run is over
 abbrev pub AdvanceCases : {C W S J : Type 0} → List BlockTree → (turns : ℕ) → (journal : List Entry) → Advanced J S C W → Type 0

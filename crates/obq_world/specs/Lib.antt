@@ -4,5 +4,7 @@ pub mod State
 pub mod Entries
 pub mod Going
 pub mod Calls
+pub mod Work
+pub mod Claims
 pub mod Reports
 pub mod Ends

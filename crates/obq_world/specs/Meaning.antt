@@ -1,5 +1,5 @@
 -- What the codes, windows and sites of a machine mean. A machine is not known here: these are words for what it tells of itself.
-use Rattle.std.specs.Prelude.{List, Option, Some, [], ℕ, slice_get, ◌≡◌}
+use Rattle.std.specs.Prelude.{List, Option, Some, [], ℕ, slice_get, ◌≡◌, ◌≤◌}
 use Rattle.obq_base.specs.Tree.{BlockTree}
 use Rattle.obq_model.specs.Terms.{Raised, Value, Term}
 use Rattle.obq_model.specs.Step.{Self, no_self, Operation, Frame, Found, Done, Uncaught, find}
@@ -9,6 +9,7 @@ use Rattle.obq_model.specs.Opening.{block_term}
 use Rattle.obq_stands.specs.World.{Ref, same_ref, Heap, Ending}
 use Rattle.obq_stands.specs.Stands.{after_steps}
 use Rattle.obq_stands.specs.Events.{writer_at}
+use Rattle.obq_world.specs.declared.lending.Ran.{Ran}
 use Rattle.obq_world.specs.declared.machine.Stop.{Stop}
 use Rattle.obq_world.specs.declared.machine.Stop.TheVariants as stop
 
@@ -48,6 +49,12 @@ Says stop.Bottom f = IsBottom f
 
 abbrev pub StopsAs : {C W S : Type 0} → Meaning C W S → Stop → W → Type 0
 StopsAs m why w = (depth : ℕ) (self : Self Ref) (u : Term Ref) → m.reads w depth self u → Says why (find same_ref depth self u)
+
+-- the window behind at most so many pure steps of this one
+pub record IsRan {C W S : Type 0} (m : Meaning C W S) (old : W) (most : ℕ) (ran : Ran W) : Type 0 where
+  pub few : ran.steps ≤ most
+  pub runs : Runs m old ran.steps ran.window
+  pub stops : StopsAs m ran.stop ran.window
 
 -- the window in which block k of these begins
 abbrev pub Opens : {C W S : Type 0} → Meaning C W S → List BlockTree → ℕ → W → Type 0

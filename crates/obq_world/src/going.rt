@@ -1,28 +1,29 @@
 //! What a thread does in one go: pure steps, and the act behind them.
 
-ghost use Rattle.std.specs.Prelude.{◌≡◌, ◌<◌, ◌≤◌, ◌+◌, ◌^◌, IfOk, IsTrue, Some, length, slice_get};
+ghost use Rattle.std.specs.Prelude.{◌≡◌, ◌<◌, ◌≤◌, ◌+◌, ◌++◌, ◌^◌, IfOk, IsTrue, OnOk, Some, length, slice_get};
 ghost use Rattle.obq_world.specs.Acts.{CanAct, IsDue};
-ghost use Rattle.obq_world.specs.Entries.{act_in, made_in, turns_of};
+ghost use Rattle.obq_world.specs.Entries.{act_in, entries_of, made_in, turns_of};
 ghost use Rattle.obq_world.specs.Going.{AskedCases, GoesOn, IsNoted, MayGo};
 ghost use Rattle.obq_world.specs.Meaning.{IsRunning};
 ghost use Rattle.obq_world.specs.State.{used_in};
 
-use crate::machine::{Machine, Made, Refused, Tried};
+use crate::machine::{Machine, Made, Refused, Stop, Tried};
 use crate::naming::Naming;
 use crate::parts::{is_wanted, settle, spent};
 use crate::slots::ThreadSlot;
 use obq_base::{Act, Entry, NoMemory, ThreadId};
 use obq_journal::Journal;
 
-/// So many pure steps, and what came of the act behind them. Where none was tried that is as where it waits.
+/// So many pure steps, why they stopped, and what came of the act behind them. Where none was tried that is as where it waits.
 #[derive(Clone, Copy, Debug, PartialEq, Eq)]
 pub struct Gone {
     pub steps: u32,
+    pub stop: Stop,
     pub tried: Tried,
 }
 
 /// Tries the act that is due in the thread's window, if one is wanted. Where none is wanted the answer is that of an act that waits.
-fn try_act<J: Naming, M: Machine<J>>(
+pub(crate) fn try_act<J: Naming, M: Machine<J>>(
     site: &mut M,
     codes: &M::Codes,
     thread: ThreadId,
@@ -66,6 +67,7 @@ pub(crate) fn go_on<J: Naming, M: Machine<J>>(
     let tried = try_act(site, codes, thread, wanted, cells, threads)?;
     Ok(Gone {
         steps: slice.steps,
+        stop: slice.stop,
         tried,
     })
 }
@@ -101,7 +103,24 @@ pub(crate) fn turns_taken(gone: Gone) -> u32
     }
 }
 
-/// Notes what the thread did: the turns that it used, the slot of a thread that was made, and the entry. The answer is how many cells there are.
+/// An entry of what the thread did, if that took a turn.
+fn append(journal: &mut Journal, thread: ThreadId, gone: Gone) -> Result<(), NoMemory>
+    requires { gone.steps + 1 < 2 ^ 32 }
+    ensures entries { OnOk result (journal.new.entries ≡ journal.old.entries ++ entries_of thread.0 gone.steps (act_in gone.tried)) }
+    ensures turns { journal.new.turns ≡ journal.old.turns }
+{
+    if turns_taken(gone) == 0 {
+        return Ok(());
+    }
+    journal.push(Entry {
+        thread: thread.0,
+        pure: gone.steps,
+        act: act_of(gone.tried),
+    })?;
+    Ok(())
+}
+
+/// Notes what the thread did: the turns that it used, the slot of a thread that was made, and the entry, where it took a turn. The answer is how many cells there are.
 pub(crate) fn note(
     slots: &mut Vec<ThreadSlot>,
     cells: u64,
@@ -118,10 +137,6 @@ pub(crate) fn note(
     let k = thread.0 as usize;
     slots[k] = spent(slots[k], turns_taken(gone));
     let count = settle(slots, cells, made_by(gone.tried))?;
-    journal.push(Entry {
-        thread: thread.0,
-        pure: gone.steps,
-        act: act_of(gone.tried),
-    })?;
+    append(journal, thread, gone)?;
     Ok(count)
 }

@@ -2,8 +2,8 @@
 
 ghost use Rattle.std.specs.Prelude.{◌≡◌, ◌<◌, ◌≤◌, ◌+◌, ◌^◌, ◌++◌, Any, IfOk, IsTrue, false, true, MatchBool, MatchOption, nat_lt, ◌&&◌, length};
 ghost use Rattle.obq_world.specs.Acts.{cells_made};
-ghost use Rattle.obq_world.specs.Calls.{AllIdle, AllStopped, IsStopped, NobodyClaims, stops_at_act};
-ghost use Rattle.obq_world.specs.Entries.{slots_made, spent as spent_in};
+ghost use Rattle.obq_world.specs.Calls.{AllIdle, AllStopped, IsStopped, NobodyClaims};
+ghost use Rattle.obq_world.specs.Entries.{slots_made, spent as spent_in, stops_at_act};
 ghost use Rattle.obq_world.specs.Meaning.{IsRunning};
 
 use crate::machine::{Machine, Made, Stop};

@@ -21,13 +21,13 @@ use std::marker::{Model, PhantomData};
 /// The sites of a program, of which there is one, its threads, and the journal that replays to where they stand.
 #[derive(Drop)]
 pub struct World<J: Naming, M: Machine<J>> {
-    alloc: Global,
-    site: M,
-    slots: Vec<ThreadSlot>,
-    cells: u64,
-    codes: M::Codes,
-    journal: Journal,
-    of: PhantomData<J>,
+    pub(crate) alloc: Global,
+    pub(crate) site: M,
+    pub(crate) slots: Vec<ThreadSlot>,
+    pub(crate) cells: u64,
+    pub(crate) codes: M::Codes,
+    pub(crate) journal: Journal,
+    pub(crate) of: PhantomData<J>,
 }
 
 impl<J: Naming, M: Machine<J>> Model for World<J, M> {
