@@ -23,7 +23,8 @@ use Rattle.obq_world.specs.declared.machine.HowEnded.TheVariants as how
 use Rattle.obq_world.specs.declared.machine.Made.{Made}
 use Rattle.obq_world.specs.declared.machine.Tried.{Tried}
 use Rattle.obq_world.specs.declared.machine.Tried.TheVariants as tried
-use Rattle.obq_world.specs.Meaning.{Meaning, NeedsAct, IsBottom}
+use Rattle.obq_world.specs.declared.machine.Slice.{Slice}
+use Rattle.obq_world.specs.Meaning.{IsBottom, Meaning, NeedsAct, Opens, Runs, StopsAs}
 
 -- an act is due in the window: an operation, or the end
 abbrev pub IsDue : {C W S : Type 0} → Meaning C W S → W → Type 0
@@ -60,12 +61,24 @@ pub record Rewinds {C W S : Type 0} (m : Meaning C W S) (old : S) (t : ℕ) (w :
   pub windows : (u : ℕ) → m.windows new u ≡ with_at (m.windows old) t (Some w) u
   pub ended : (v : ℕ) (o : Option Ending) → m.ended old v o → m.ended new v o
 
+-- thread t goes at most so many pure steps on; nothing else changes
+pub record IsRunOn {C W S : Type 0} (m : Meaning C W S) (old : S) (t most : ℕ) (slice : Slice) (new : S) : Type 0 where
+  pub few : slice.steps ≤ most
+  pub window : W
+  pub runs : (w : W) → m.windows old t ≡ Some w → Runs m w slice.steps window
+  pub stops : StopsAs m slice.stop window
+  pub rewinds : Rewinds m old t window new
+
 -- the site with its writer and thread 0
 pub record BeginsWith {C W S : Type 0} (m : Meaning C W S) (w : W) (s : S) : Type 0 where
   pub heap : m.heap s (first_cell 1)
   pub size : m.size s ≤ 1
   pub windows : (u : ℕ) → m.windows s u ≡ (if u == 0 then Some w else None)
   pub ended : (v : ℕ) → m.ended s v None
+
+-- its window is that of block 0
+abbrev pub Begins : {C W S : Type 0} → Meaning C W S → List BlockTree → S → Type 0
+Begins {C} {W} m blocks s = (w : W) × Opens m blocks 0 w × BeginsWith m w s
 
 -- the endings behind an act that ends no thread, and behind the end of thread t
 abbrev pub same_endings : ℕ → Option Ending → Option Ending
@@ -129,11 +142,10 @@ WaitsHere {C} {W} m s t =
     (h : Heap) (w : W) (depth : ℕ) (self : Self Ref) (u : Term Ref) → m.heap s h → m.windows s t ≡ Some w → m.reads w depth self u
     → (op : Operation Ref) × (hs : List (Frame Ref)) × (find same_ref depth self u ≡ Needs op hs) × WaitsIn m s h t (self_at self hs) op
 
--- what trying an act with a window comes to
-abbrev pub TriedCases : {C W S : Type 0} → Meaning C W S → S → ℕ → W → (cells threads : ℕ) → Tried W → S → Type 0
-TriedCases m old t w cells threads (tried.Did a made) new = DidIn m old t w cells threads a made new × (m.size new ≤ cells_made made cells)
-TriedCases m old t w cells threads tried.Waits new = Rewinds m old t w new × WaitsHere m new t
-TriedCases m old t w cells threads (tried.NoMemory back) new = (new ≡ old) × (back ≡ w)
+-- what trying the act of thread t comes to
+abbrev pub TriedCases : {C W S : Type 0} → Meaning C W S → S → ℕ → (cells threads : ℕ) → Tried → S → Type 0
+TriedCases {C} {W} m old t cells threads (tried.Did a made) new = ((w : W) → m.windows old t ≡ Some w → DidIn m old t w cells threads a made new) × (m.size new ≤ cells_made made cells)
+TriedCases {C} {W} m old t cells threads tried.Waits new = ((w : W) → m.windows old t ≡ Some w → Rewinds m old t w new) × WaitsHere m new t
 
 -- ---- what a site tells
 

@@ -1,0 +1,6 @@
+//! One site of a program that runs by codes: its cells, the windows of its threads, and how threads ended.
+#![tactic(auto)]
+
+mod host;
+
+pub use host::{Ending, Host};
