@@ -2,5 +2,6 @@
 #![tactic(auto)]
 
 mod host;
+mod places;
 
 pub use host::{Ending, Host};
