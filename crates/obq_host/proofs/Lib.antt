@@ -1,0 +1,4 @@
+pub mod Ended
+pub mod Forms
+mod Placing
+mod Refocused

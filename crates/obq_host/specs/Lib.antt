@@ -1,2 +1,4 @@
 pub mod Meanings
+pub mod Endings
 pub mod Places
+pub mod Threads

@@ -1,7 +1,9 @@
 //! One site of a program that runs by codes: its cells, the windows of its threads, and how threads ended.
 #![tactic(auto)]
 
+mod endings;
 mod host;
 mod places;
+mod threads;
 
 pub use host::{Ending, Host};

@@ -2,7 +2,7 @@
 
 ghost use Rattle.std.specs.Prelude.{◌≡◌, ◌<◌, IfOk, None, Some, vec_len};
 ghost use Rattle.std.specs.Option.{option_copied};
-ghost use Rattle.obq_host.specs.Places.{AreSame, IsWith, at_place};
+ghost use Rattle.obq_host.specs.Places.{AreSame, IsWith, IsWithTwo, at_place};
 
 use obq_base::NoMemory;
 
@@ -46,4 +46,24 @@ pub(crate) fn put_at<T: Drop>(
     make_room(places, at)?;
     places[at] = Some(value);
     Ok(())
+}
+
+/// Puts this at one place, and then the other, if there is one, at another. Whether there is one.
+pub(crate) fn put_two<T: Drop>(
+    places: &mut Vec<Option<T>>,
+    at: usize,
+    value: T,
+    further: usize,
+    other: Option<T>,
+) -> Result<bool, NoMemory>
+    ensures { IfOk result (λ more. IsWithTwo places.old.items at value further other more places.new.items) }
+{
+    put_at(places, at, value)?;
+    match other {
+        None => Ok(false),
+        Some(other) => {
+            put_at(places, further, other)?;
+            Ok(true)
+        }
+    }
 }
