@@ -1,4 +1,5 @@
 pub mod Ended
+pub mod Forked
 pub mod Forms
 mod Placing
 mod Refocused

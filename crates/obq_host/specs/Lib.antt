@@ -1,4 +1,5 @@
 pub mod Meanings
 pub mod Endings
 pub mod Places
+pub mod Stops
 pub mod Threads
