@@ -1,5 +1,5 @@
 -- The cells of a site as a World has them.
-use Rattle.std.specs.Prelude.{List, None, Option, Some, if◌then◌else◌, option_map, slice_get, ℕ, ◌==◌, ◌≡◌}
+use Rattle.std.specs.Prelude.{None, Option, Some, if◌then◌else◌, option_map, slice_get, ℕ, ◌==◌, ◌≡◌}
 use Rattle.obq_base.specs.declared.places.Ref.{Ref}
 use Rattle.obq_builtin.specs.Reading.{kind_of}
 use Rattle.obq_model.specs.Builtins.{kind_number}
