@@ -3,3 +3,4 @@ pub mod Forked
 pub mod Forms
 mod Placing
 mod Refocused
+pub mod Standing

@@ -1,42 +1,25 @@
 -- What codes, windows and a site mean, under a table of the program's procedures.
-use Rattle.std.specs.Prelude.{List, None, Option, Some, [], false, if◌then◌else◌, length, option_and_then, option_map, slice_get, ℕ, ◌&&◌, ◌<◌, ◌==◌, ◌×◌, ◌≡◌}
+use Rattle.std.specs.Prelude.{List, None, Option, Some, [], length, option_and_then, slice_get, ℕ, ◌×◌, ◌≡◌}
 use Rattle.obq_base.specs.Tree.{BlockTree}
 use Rattle.obq_base.specs.declared.code.CodeNo.{CodeNo}
 use Rattle.obq_base.specs.declared.code.SourceCode.{SourceCode}
 use Rattle.obq_base.specs.declared.places.Ref.{Ref}
-use Rattle.obq_builtin.specs.Reading.{kind_of}
 use Rattle.obq_except.specs.declared.windows.Window.{Window}
-use Rattle.obq_heap.specs.Heap.{Heap, placed_at}
-use Rattle.obq_heap.specs.declared.cells.Placed.{Placed}
 use Rattle.obq_host.specs.declared.host.Ending.{Ending}
 use Rattle.obq_host.specs.declared.host.Ending.TheVariants as e
 use Rattle.obq_host.specs.declared.host.Host.{Host}
 use Rattle.obq_model.specs.Occurrences.{unbound}
 use Rattle.obq_model.specs.Procedures.{main_proc}
-use Rattle.obq_model.specs.Step.{Self}
-use Rattle.obq_model.specs.Terms.{Term}
 use Rattle.obq_moves.specs.Store.{store}
 use Rattle.obq_moves.specs.Views.{plain_value, shown}
-use Rattle.obq_answers.specs.Worlds.{SeenAs, seen, seen_cell, seen_value}
-use Rattle.obq_site.specs.Cells.{plain_cell}
+use Rattle.obq_answers.specs.Worlds.{SeenAs, seen_value}
+use Rattle.obq_host.specs.Seen.{HeapIs}
+use Rattle.obq_site.specs.Cells.{plain_heap}
 use Rattle.obq_stands.specs.World as world
 use Rattle.obq_windows.specs.Agrees.{Agrees}
 use Rattle.obq_windows.specs.Complete.{IsComplete}
-use Rattle.obq_windows.specs.Rows.{CompleteCell}
 use Rattle.obq_windows.specs.Values.{Table}
 use Rattle.obq_world.specs.Meaning.{Meaning}
-
--- a cell as the World has it
-abbrev pub seen_placed : Table Ref → Placed → world.Born
-seen_placed T p = record { born = p.born; cell = seen_cell T (plain_cell p.cell) }
-
--- The cells read back as this heap: under each reference of this machine stands what the heap has under the reference that it is seen as, and under
--- all others nothing.
-pub record HeapIs (T : Table Ref) (cells : Heap) (h : world.Heap) : Type 0 where
-  pub here : (r : Ref) → h (seen r) ≡ option_map (seen_placed T) (placed_at cells r)
-  pub else_none : (r : world.Ref) → ((q : Ref) → (r ≡ seen q) → placed_at cells q ≡ None) → h r ≡ None
-  pub complete : (r : Ref) (p : Placed) → placed_at cells r ≡ Some p → CompleteCell T (plain_cell p.cell)
-  pub site : cells.site.0 ≡ 0
 
 -- how a thread ended reads back so
 abbrev pub EndingIs : Table Ref → Option (Option Ending) → Option world.Ending → Type 0
@@ -59,7 +42,7 @@ abbrev pub meaning_of : List SourceCode → Table Ref → List BlockTree → Mea
 meaning_of parts T blocks = record {
   are_codes = AreCodes parts T blocks;
   reads = λ w a self t. SeenAs parts T a self (shown w) t;
-  heap = λ s h. HeapIs T s.heap h;
+  heap = λ s h. HeapIs T (plain_heap s.heap) h;
   size = λ s. length s.heap.cells;
   windows = λ s t. option_and_then (λ w. w) (slice_get s.windows.items t);
   ended = λ s v o. EndingIs T (slice_get s.endings.items v) o;
