@@ -11,7 +11,7 @@ use Rattle.obq_moves.specs.Views.{shown}
 use Rattle.obq_windows.specs.Values.{PlainValue}
 use Rattle.obq_windows.specs.Windows.{NodeFocus}
 
-same_window : (o : Option Window) (v w : Window) → Some v ≡ o → o ≡ Some w → v ≡ w
+pub same_window : (o : Option Window) (v w : Window) → Some v ≡ o → o ≡ Some w → v ≡ w
 same_window o v w e f = cc (e, f)
 
 pub refocused : (old mid new : List (Option Window)) (t : ℕ) (v w x : Window) (focus : NodeFocus Ref)

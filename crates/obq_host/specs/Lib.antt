@@ -2,6 +2,8 @@ pub mod Acting
 pub mod Endings
 pub mod Meanings
 pub mod Places
+pub mod Running
 pub mod Seen
 pub mod Stops
 pub mod Threads
+pub mod Turns

@@ -1,31 +1,23 @@
 -- What codes, windows and a site mean, under a table of the program's procedures.
-use Rattle.std.specs.Prelude.{List, None, Option, Some, [], length, option_and_then, slice_get, ℕ, ◌×◌, ◌≡◌}
+use Rattle.std.specs.Prelude.{List, Some, [], length, slice_get, ℕ, ◌≡◌}
 use Rattle.obq_base.specs.Tree.{BlockTree}
 use Rattle.obq_base.specs.declared.code.CodeNo.{CodeNo}
 use Rattle.obq_base.specs.declared.code.SourceCode.{SourceCode}
 use Rattle.obq_base.specs.declared.places.Ref.{Ref}
 use Rattle.obq_except.specs.declared.windows.Window.{Window}
-use Rattle.obq_host.specs.declared.host.Ending.{Ending}
-use Rattle.obq_host.specs.declared.host.Ending.TheVariants as e
+use Rattle.obq_host.specs.Endings.{EndingReads, kept_at}
+use Rattle.obq_host.specs.Places.{at_place}
 use Rattle.obq_host.specs.declared.host.Host.{Host}
 use Rattle.obq_model.specs.Occurrences.{unbound}
 use Rattle.obq_model.specs.Procedures.{main_proc}
 use Rattle.obq_moves.specs.Store.{store}
-use Rattle.obq_moves.specs.Views.{plain_value, shown}
-use Rattle.obq_answers.specs.Worlds.{SeenAs, seen_value}
+use Rattle.obq_moves.specs.Views.{shown}
+use Rattle.obq_answers.specs.Worlds.{SeenAs}
 use Rattle.obq_host.specs.Seen.{HeapIs}
 use Rattle.obq_site.specs.Cells.{plain_heap}
-use Rattle.obq_stands.specs.World as world
 use Rattle.obq_windows.specs.Agrees.{Agrees}
-use Rattle.obq_windows.specs.Complete.{IsComplete}
 use Rattle.obq_windows.specs.Values.{Table}
 use Rattle.obq_world.specs.Meaning.{Meaning}
-
--- how a thread ended reads back so
-abbrev pub EndingIs : Table Ref → Option (Option Ending) → Option world.Ending → Type 0
-EndingIs T (Some (Some (e.Returned v))) o = (o ≡ Some (world.ByValue (seen_value T (plain_value v)))) × IsComplete T (plain_value v)
-EndingIs T (Some (Some (e.Failed text))) o = o ≡ Some (world.ByException text)
-EndingIs T place o = o ≡ None
 
 -- the procedure of a source's code
 pub record IsMain (T : Table Ref) (number : CodeNo) (source : ℕ) (tree : BlockTree) : Type 0 where
@@ -44,6 +36,6 @@ meaning_of parts T blocks = record {
   reads = λ w a self t. SeenAs parts T a self (shown w) t;
   heap = λ s h. HeapIs T (plain_heap s.heap) h;
   size = λ s. length s.heap.cells;
-  windows = λ s t. option_and_then (λ w. w) (slice_get s.windows.items t);
-  ended = λ s v o. EndingIs T (slice_get s.endings.items v) o;
+  windows = λ s t. at_place s.windows.items t;
+  ended = λ s v o. EndingReads T (kept_at s.endings.items v) o;
 }

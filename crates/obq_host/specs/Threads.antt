@@ -38,6 +38,11 @@ abbrev pub due_at : NodeFocus Ref → PlainDue
 due_at (NodeAct op after) = due_by op
 due_at x = DueEnd
 
+-- the thread whose end is waited for
+abbrev pub awaited : PlainDue → Option ℕ
+awaited (DueJoin thread) = Some thread
+awaited due = None
+
 -- ---- a fork, before which there were so many threads
 
 -- what lies around the window of the new thread

@@ -4,6 +4,9 @@
 mod endings;
 mod host;
 mod places;
+mod running;
 mod threads;
+mod turns;
 
 pub use host::{Ending, Host};
+pub use running::PureSteps;

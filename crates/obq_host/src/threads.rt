@@ -6,7 +6,7 @@ ghost use Rattle.obq_answers.specs.Forms.{with_focus};
 ghost use Rattle.obq_except.specs.declared.windows.Window.{Window};
 ghost use Rattle.obq_host.specs.Endings.{kept_at, plain_ending};
 ghost use Rattle.obq_host.specs.Places.{at_place};
-ghost use Rattle.obq_host.specs.Threads.{Forks, IsForked, Joins, Refocuses, around_thread, due_at, due_by, forked_focus, forked_window, joined_focus, plain_due};
+ghost use Rattle.obq_host.specs.Threads.{Forks, IsForked, Joins, Refocuses, around_thread, awaited, due_at, due_by, forked_focus, forked_window, joined_focus, plain_due};
 ghost use Rattle.obq_moves.specs.Views.{plain_focus, plain_operation, plain_value, shown};
 ghost use Rattle.obq_windows.specs.Values.{ThreadValue};
 ghost use Rattle.obq_windows.specs.Windows.{node_raises};
@@ -50,6 +50,25 @@ pub(crate) fn due_at(alloc: Global, focus: &Focus) -> Result<Due, NoMemory>
     match focus {
         Focus::Act { operation, .. } => due_by(alloc, operation),
         _ => Ok(Due::End),
+    }
+}
+
+fn awaited_by(operation: &Operation) -> Option<ThreadId>
+    ensures { option_map (λ thread. thread.0) result ≡ awaited (due_by (plain_operation operation.now)) }
+{
+    match operation {
+        Operation::Join { thread, .. } => Some(*thread),
+        _ => None,
+    }
+}
+
+/// The thread whose end is waited for where this stands in the innermost place.
+pub(crate) fn awaited(focus: &Focus) -> Option<ThreadId>
+    ensures { option_map (λ thread. thread.0) result ≡ awaited (due_at (plain_focus focus.now)) }
+{
+    match focus {
+        Focus::Act { operation, .. } => awaited_by(operation),
+        _ => None,
     }
 }
 
