@@ -14,10 +14,12 @@ use Rattle.obq_host.specs.Turns.{IsBegun, first_heap}
 use Rattle.obq_host.specs.declared.host.Host.{Host}
 use Rattle.obq_model.specs.Store.{WriterCell}
 use Rattle.obq_model.specs.Terms.{Array, Condition, Engine, LocKind, Object, Variable, Writer}
+use Rattle.obq_moves.specs.Store.{store}
 use Rattle.obq_site.specs.Cells.{PlainPlaced, plain_heap, placed_with}
 use Rattle.obq_stands.specs.Events.{first_cell, writer_at}
 use Rattle.obq_stands.specs.World as world
 use Rattle.obq_stands.proofs.Update.{test_no}
+use Rattle.obq_windows.specs.Agrees.{Agrees}
 use Rattle.obq_windows.specs.Rows.{CompleteCell, PlainWriter}
 use Rattle.obq_windows.specs.Values.{Table}
 use Rattle.obq_world.specs.Acts.{BeginsWith}
@@ -64,10 +66,10 @@ window_at : (w : Window) (u : ℕ) → at_place (Some w ∷ []) u ≡ (if u == 0
 window_at w zero = refl
 window_at w (suc u) = sym (ap (λ (b : Bool). if b then Some w else None) (test_no (suc u) 0 (no_zero u)))
 
-pub begins_with : (parts : List SourceCode) (T : Table Ref) (blocks : List BlockTree) (w : Window) (s : Host) → IsBegun w s → BeginsWith (meaning_of parts T blocks) w s
-begins_with parts T blocks w s h =
+pub begins_with : (parts : List SourceCode) (T : Table Ref) (blocks : List BlockTree) → Agrees T (store parts) → (w : Window) (s : Host) → IsBegun w s → BeginsWith (meaning_of parts T blocks) w s
+begins_with parts T blocks g w s h =
     record {
-      heap = subst (λ z. HeapIs T (plain_heap z) (first_cell 1)) (sym h.heap) (first_reads T);
+      heap = record { agrees = g; cells = subst (λ z. HeapIs T (plain_heap z) (first_cell 1)) (sym h.heap) (first_reads T) };
       size = subst (λ z. length z.cells ≤ 1) (sym h.heap) (omega arith);
       windows = λ u. ap (λ z. at_place z u) h.windows ∙ window_at w u;
       ended = λ v. subst (λ z. EndingReads T (kept_at z v) None) (sym h.endings) refl;

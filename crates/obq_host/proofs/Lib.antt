@@ -1,3 +1,4 @@
+pub mod AsMachine
 pub mod Begun
 pub mod Ended
 pub mod Forked

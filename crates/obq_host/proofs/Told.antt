@@ -9,7 +9,7 @@ use Rattle.obq_heap.specs.Heap.{cell_at, placed_at}
 use Rattle.obq_heap.specs.declared.cells.Cell.{Cell}
 use Rattle.obq_heap.specs.declared.cells.Placed.{Placed}
 use Rattle.obq_host.specs.Endings.{EndingReads, PlainEnding, PlainFailed, PlainReturned, kept_at}
-use Rattle.obq_host.specs.Meanings.{meaning_of}
+use Rattle.obq_host.specs.Meanings.{CellsRead, meaning_of}
 use Rattle.obq_host.specs.Places.{IsWith, at_place}
 use Rattle.obq_host.specs.Running.{StopSays}
 use Rattle.obq_host.specs.Seen.{HeapIs, seen_placed}
@@ -68,7 +68,7 @@ written_in T None x e = absurd (true≢false (sym (ap is_some e)))
 written_in T (Some p) x e = written_is T p.cell ∙ ap (λ (o : Option world.Born). written (option_map (λ (z : world.Born). z.cell) o)) e
 
 pub tells_text : (parts : List SourceCode) (T : Table Ref) (blocks : List BlockTree) (s : Host) (text : _) → text ≡ text_in (cell_at s.heap the_writer) → TellsText (meaning_of parts T blocks) s text
-tells_text parts T blocks s text e h x is there = e ∙ written_in T (placed_at s.heap the_writer) x (sym (seen_at T s.heap the_writer) ∙ sym (is.reads (seen the_writer)) ∙ there)
+tells_text parts T blocks s text e h x is there = e ∙ written_in T (placed_at s.heap the_writer) x (sym (seen_at T s.heap the_writer) ∙ sym (is.cells.reads (seen the_writer)) ∙ there)
 
 -- ---- pure steps
 
@@ -88,13 +88,13 @@ says parts T a self w t stop.Bottom h = last (shown w).focus h.1
     last (NodeCall f vs) k = absurd k
     last (NodeAct op after) k = absurd k
 
-pub same_heap : (T : Table Ref) (old new : Host) → new.heap ≡ old.heap → (h : world.Heap) → HeapIs T (plain_heap old.heap) h → HeapIs T (plain_heap new.heap) h
-same_heap T old new e h is = subst (λ z. HeapIs T (plain_heap z) h) (sym e) is
+pub same_heap : (parts : List SourceCode) (T : Table Ref) (old new : Host) → new.heap ≡ old.heap → (h : world.Heap) → CellsRead parts T old h → CellsRead parts T new h
+same_heap parts T old new e h is = record { agrees = is.agrees; cells = subst (λ z. HeapIs T (plain_heap z) h) (sym e) is.cells }
 
 pub rewinds : (parts : List SourceCode) (T : Table Ref) (blocks : List BlockTree) (old new : Host) (t : ℕ) (w : Window) → IsWith old.windows.items t (Some w) new.windows.items → SameElse old new → Rewinds (meaning_of parts T blocks) old t w new
 rewinds parts T blocks old new t w windows same =
     record {
-      heap = same_heap T old new same.heap;
+      heap = same_heap parts T old new same.heap;
       size = ap (λ z. length z.cells) same.heap;
       windows = windows;
       ended = λ v o h. subst (λ z. EndingReads T (kept_at z.items v) o) (sym same.endings) h;

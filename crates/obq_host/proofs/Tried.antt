@@ -10,9 +10,8 @@ use Rattle.obq_answers.specs.Beginnings.{called_shown}
 use Rattle.obq_answers.specs.Worlds.{SeenAs, seen_value}
 use Rattle.obq_except.specs.declared.windows.Window.{Window}
 use Rattle.obq_host.specs.Endings.{EndingReads, PlainEnding, PlainFailed, PlainReturned, kept_at, plain_ending}
-use Rattle.obq_host.specs.Meanings.{meaning_of}
+use Rattle.obq_host.specs.Meanings.{CellsRead, meaning_of}
 use Rattle.obq_host.specs.Places.{IsWith, IsWithTwo, at_place}
-use Rattle.obq_host.specs.Seen.{HeapIs}
 use Rattle.obq_host.specs.Threads.{DueJoin, IsForked, Joins, around_thread, due_at}
 use Rattle.obq_host.specs.Turns.{ActsOnThreads, EndsHere, HasEnded, HasForked, HasJoined, HasNoRoom, InPlace, IsRunningHere, IsWaiting, JoinsHere, OfWindow, SameElse}
 use Rattle.obq_host.specs.declared.host.Ending.{Ending}
@@ -24,13 +23,10 @@ use Rattle.obq_model.specs.Config.{act}
 use Rattle.obq_model.specs.Exceptions.{fork_limit}
 use Rattle.obq_model.specs.Step.{Found, JoinWith, Next, Self, find, no_self, plug}
 use Rattle.obq_model.specs.Terms.{Call, Const, End, Form, Part, Term, Thread}
-use Rattle.obq_moves.specs.Store.{store}
 use Rattle.obq_moves.specs.Views.{Shown, shown}
-use Rattle.obq_site.specs.Cells.{plain_heap}
 use Rattle.obq_stands.specs.World as world
 use Rattle.obq_stands.specs.World.{with_at}
 use Rattle.obq_stands.proofs.Update.{same_or, test_no, test_refl, with_at_other, with_at_same}
-use Rattle.obq_windows.specs.Agrees.{Agrees}
 use Rattle.obq_windows.specs.Values.{PlainValue, Table}
 use Rattle.obq_world.specs.Acts.{DidAct, DidIn, EndsHere as EndsThere, ForksOff, HasTooMany, IsDue, JoiningWaits, JoinsWith, Leaves, TriedCases, WaitsHere, same_endings, with_ending}
 use Rattle.obq_world.specs.Meaning.{ByRaising, ByValue, IsBottom, NeedsAct}
@@ -70,17 +66,17 @@ did_end : (parts : List SourceCode) (T : Table Ref) (blocks : List BlockTree) (o
 did_end parts T blocks old new t cells threads w h here heap a self u is k =
     let so : EndsSo T (find world.same_ref a self u) (plain_ending h.ending) = ends_seen parts T a self (shown w) u k (plain_ending h.ending) (sym (h.ends w here)) in
     EndsThere so.ending new so.ends (record {
-      heap = same_heap T old new h.heap heap is;
+      heap = same_heap parts T old new h.heap heap is;
       windows = h.windows;
       ended = ended_at T old.endings.items new.endings.items t h.ending so.ending h.endings so.reads;
     })
 
 -- ---- a fork
 
-leaves : (parts : List SourceCode) (T : Table Ref) (blocks : List BlockTree) (old new : Host) (heap : world.Heap) (ws : ℕ → Option Window) → HeapIs T (plain_heap old.heap) heap → SameElse old new → ((u : ℕ) → at_place new.windows.items u ≡ ws u)
+leaves : (parts : List SourceCode) (T : Table Ref) (blocks : List BlockTree) (old new : Host) (heap : world.Heap) (ws : ℕ → Option Window) → CellsRead parts T old heap → SameElse old new → ((u : ℕ) → at_place new.windows.items u ≡ ws u)
     → Leaves (meaning_of parts T blocks) old heap ws same_endings new
 leaves parts T blocks old new heap ws is same windows =
-    record { heap = same_heap T old new same.heap heap is; windows = windows; ended = λ v o h. subst (λ z. EndingReads T (kept_at z.items v) o) (sym same.endings) h }
+    record { heap = same_heap parts T old new same.heap heap is; windows = windows; ended = λ v o h. subst (λ z. EndingReads T (kept_at z.items v) o) (sym same.endings) h }
 
 has_room : (full : Bool) (s begun : Shown) → Some s ≡ (if full then None else Some begun) → full ≡ false
 has_room false s begun e = refl
@@ -94,7 +90,7 @@ begun_is : (full : Bool) (s begun : Shown) → full ≡ false → Some s ≡ (if
 begun_is false s begun room e = ap (λ (o : Option Shown). unwrap_or o s) e
 begun_is true s begun room e = absurd (true≢false room)
 
-made_thread : (parts : List SourceCode) (T : Table Ref) (blocks : List BlockTree) (old new : Host) (t cells threads : ℕ) (heap : world.Heap) (a : ℕ) (self : Self world.Ref) (u : Term world.Ref) (s : Shown) (f : PlainValue Ref) → ForkMeans parts T a self s u f → HeapIs T (plain_heap old.heap) heap → SameElse old new
+made_thread : (parts : List SourceCode) (T : Table Ref) (blocks : List BlockTree) (old new : Host) (t cells threads : ℕ) (heap : world.Heap) (a : ℕ) (self : Self world.Ref) (u : Term world.Ref) (s : Shown) (f : PlainValue Ref) → ForkMeans parts T a self s u f → CellsRead parts T old heap → SameElse old new
     → (x : Window) (begun : Option Window) → IsForked s f threads (shown x) (option_map shown begun) → IsWithTwo old.windows.items t x threads begun true new.windows.items
     → DidAct (meaning_of parts T blocks) old t cells threads heap a self u (act ActKind.Fork threads) Made.Thread new
 made_thread parts T blocks old new t cells threads heap a self u s f m is same x (Some y) forks windows =
@@ -105,7 +101,7 @@ made_thread parts T blocks old new t cells threads heap a self u s f m is same x
     (leaves parts T blocks old new heap (with_at (with_at (at_place old.windows.items) t (Some x)) threads (Some y)) is same windows)
 made_thread parts T blocks old new t cells threads heap a self u s f m is same x None forks windows = absurd windows
 
-made_none : (parts : List SourceCode) (T : Table Ref) (blocks : List BlockTree) (old new : Host) (t cells threads : ℕ) (heap : world.Heap) (a : ℕ) (self : Self world.Ref) (u : Term world.Ref) (s : Shown) (f : PlainValue Ref) → ForkMeans parts T a self s u f → HeapIs T (plain_heap old.heap) heap → SameElse old new
+made_none : (parts : List SourceCode) (T : Table Ref) (blocks : List BlockTree) (old new : Host) (t cells threads : ℕ) (heap : world.Heap) (a : ℕ) (self : Self world.Ref) (u : Term world.Ref) (s : Shown) (f : PlainValue Ref) → ForkMeans parts T a self s u f → CellsRead parts T old heap → SameElse old new
     → (x : Window) (begun : Option Window) → IsForked s f threads (shown x) (option_map shown begun) → IsWithTwo old.windows.items t x threads begun false new.windows.items
     → DidAct (meaning_of parts T blocks) old t cells threads heap a self u (act ActKind.Fork THREAD_LIMIT) Made.Nothing new
 made_none parts T blocks old new t cells threads heap a self u s f m is same x None forks windows =
@@ -117,7 +113,7 @@ made_none parts T blocks old new t cells threads heap a self u s f m is same x (
 
 -- ---- a join
 
-refocused : (parts : List SourceCode) (T : Table Ref) (blocks : List BlockTree) (old new : Host) (t v cells threads : ℕ) (heap : world.Heap) (a : ℕ) (self : Self world.Ref) (u : Term world.Ref) (s : Shown) → JoinMeans parts T a self s u v → HeapIs T (plain_heap old.heap) heap → SameElse old new
+refocused : (parts : List SourceCode) (T : Table Ref) (blocks : List BlockTree) (old new : Host) (t v cells threads : ℕ) (heap : world.Heap) (a : ℕ) (self : Self world.Ref) (u : Term world.Ref) (s : Shown) → JoinMeans parts T a self s u v → CellsRead parts T old heap → SameElse old new
     → (kept : Option PlainEnding) → kept ≡ kept_at old.endings.items v → Joins old.windows.items t s kept true new.windows.items
     → DidAct (meaning_of parts T blocks) old t cells threads heap a self u (act ActKind.Join v) Made.Nothing new
 refocused parts T blocks old new t v cells threads heap a self u s m is same (Some kept) e joins =
@@ -141,9 +137,9 @@ same_size : (old new : Host) (cells : ℕ) → new.heap ≡ old.heap → length 
 same_size old new cells e h = subst (λ z. length z.cells ≤ cells) (sym e) h
 
 -- a thread that waits for another to end
-pub awaits : (parts : List SourceCode) (T : Table Ref) (blocks : List BlockTree) → Agrees T (store parts) → (s : Host) (t v : ℕ) → OfWindow s t (λ x. due_at x.focus ≡ DueJoin v) → kept_at s.endings.items v ≡ None → WaitsHere (meaning_of parts T blocks) s t
-awaits parts T blocks g s t v due none h w a self u is here k =
-    let m : JoinMeans parts T a self (shown w) u v = join_means parts T g a self (shown w) u v k (due w here) in
+pub awaits : (parts : List SourceCode) (T : Table Ref) (blocks : List BlockTree) (s : Host) (t v : ℕ) → OfWindow s t (λ x. due_at x.focus ≡ DueJoin v) → kept_at s.endings.items v ≡ None → WaitsHere (meaning_of parts T blocks) s t
+awaits parts T blocks s t v due none h w a self u is here k =
+    let m : JoinMeans parts T a self (shown w) u v = join_means parts T is.agrees a self (shown w) u v k (due w here) in
     (JoinWith v, m.around, m.next, JoiningWaits v (λ e reads. true≢false (ap is_some (subst (λ (z : Option PlainEnding). EndingReads T z (Some e)) none reads))))
 
 awaited : (ws ws2 : List (Option Window)) (t : ℕ) (s : Shown) (kept : Option PlainEnding) → Joins ws t s kept false ws2 → (kept ≡ None) × (ws2 ≡ ws)
@@ -158,29 +154,29 @@ with_own ws t w here u = by (same_or u t)
     by (inl e) = ap (at_place ws) e ∙ here ∙ sym (ap (with_at (at_place ws) t (Some w)) e ∙ with_at_same (at_place ws) t (Some w))
     by (inr ne) = sym (with_at_other (at_place ws) t (Some w) u ne)
 
-did_wait : (parts : List SourceCode) (T : Table Ref) (blocks : List BlockTree) → Agrees T (store parts) → (old new : Host) (t v cells threads : ℕ) → IsRunningHere old t → OfWindow old t (λ x. due_at x.focus ≡ DueJoin v) → JoinsHere old t v false new
+did_wait : (parts : List SourceCode) (T : Table Ref) (blocks : List BlockTree) (old new : Host) (t v cells threads : ℕ) → IsRunningHere old t → OfWindow old t (λ x. due_at x.focus ≡ DueJoin v) → JoinsHere old t v false new
     → TriedCases (meaning_of parts T blocks) old t cells threads tried.Waits new
-did_wait parts T blocks g old new t v cells threads running form h =
+did_wait parts T blocks old new t v cells threads running form h =
     let waited = awaited old.windows.items new.windows.items t (shown running.0) (kept_at old.endings.items v) (h.windows running.0 running.1) in (
       λ w here. rewinds parts T blocks old new t w (subst (λ (z : List (Option Window)). IsWith old.windows.items t (Some w) z) (sym waited.1) (with_own old.windows.items t w here)) h.same,
-      awaits parts T blocks g new t v (subst (λ (z : List (Option Window)). InPlace z t (λ x. due_at x.focus ≡ DueJoin v)) (sym waited.1) form) (ap (λ z. kept_at z.items v) h.same.endings ∙ waited.0),
+      awaits parts T blocks new t v (subst (λ (z : List (Option Window)). InPlace z t (λ x. due_at x.focus ≡ DueJoin v)) (sym waited.1) form) (ap (λ z. kept_at z.items v) h.same.endings ∙ waited.0),
     )
 
-pub tried_on_threads : (parts : List SourceCode) (T : Table Ref) (blocks : List BlockTree) → Agrees T (store parts) → (old new : Host) (t cells threads : ℕ) → IsRunningHere old t → IsDueAt parts T blocks old t → length old.heap.cells ≤ cells
+pub tried_on_threads : (parts : List SourceCode) (T : Table Ref) (blocks : List BlockTree) (old new : Host) (t cells threads : ℕ) → IsRunningHere old t → IsDueAt parts T blocks old t → length old.heap.cells ≤ cells
     → (came : Tried) → ActsOnThreads old t threads new came → TriedCases (meaning_of parts T blocks) old t cells threads came new
-tried_on_threads parts T blocks g old new t cells threads running due size _ (HasEnded h) = (λ w here. did_end parts T blocks old new t cells threads w h here, same_size old new cells h.heap size)
-tried_on_threads parts T blocks g old new t cells threads running due size _ (HasForked f form h) = (
+tried_on_threads parts T blocks old new t cells threads running due size _ (HasEnded h) = (λ w here. did_end parts T blocks old new t cells threads w h here, same_size old new cells h.heap size)
+tried_on_threads parts T blocks old new t cells threads running due size _ (HasForked f form h) = (
   λ w here heap a self u is k. let x = h.windows w here in
-      made_thread parts T blocks old new t cells threads heap a self u (shown w) f (fork_means parts T g a self (shown w) u f k (form w here) (no_step _ (due w here a self u k))) is h.same x.window x.begun x.is x.windows,
+      made_thread parts T blocks old new t cells threads heap a self u (shown w) f (fork_means parts T is.agrees a self (shown w) u f k (form w here) (no_step _ (due w here a self u k))) is h.same x.window x.begun x.is x.windows,
   same_size old new cells h.same.heap size,
 )
-tried_on_threads parts T blocks g old new t cells threads running due size _ (HasNoRoom f form h) = (
+tried_on_threads parts T blocks old new t cells threads running due size _ (HasNoRoom f form h) = (
   λ w here heap a self u is k. let x = h.windows w here in
-      made_none parts T blocks old new t cells threads heap a self u (shown w) f (fork_means parts T g a self (shown w) u f k (form w here) (no_step _ (due w here a self u k))) is h.same x.window x.begun x.is x.windows,
+      made_none parts T blocks old new t cells threads heap a self u (shown w) f (fork_means parts T is.agrees a self (shown w) u f k (form w here) (no_step _ (due w here a self u k))) is h.same x.window x.begun x.is x.windows,
   same_size old new cells h.same.heap size,
 )
-tried_on_threads parts T blocks g old new t cells threads running due size _ (HasJoined v form h) = (
-  λ w here heap a self u is k. refocused parts T blocks old new t v cells threads heap a self u (shown w) (join_means parts T g a self (shown w) u v k (form w here)) is h.same (kept_at old.endings.items v) refl (h.windows w here),
+tried_on_threads parts T blocks old new t cells threads running due size _ (HasJoined v form h) = (
+  λ w here heap a self u is k. refocused parts T blocks old new t v cells threads heap a self u (shown w) (join_means parts T is.agrees a self (shown w) u v k (form w here)) is h.same (kept_at old.endings.items v) refl (h.windows w here),
   same_size old new cells h.same.heap size,
 )
-tried_on_threads parts T blocks g old new t cells threads running due size _ (IsWaiting v form h) = did_wait parts T blocks g old new t v cells threads running form h
+tried_on_threads parts T blocks old new t cells threads running due size _ (IsWaiting v form h) = did_wait parts T blocks old new t v cells threads running form h

@@ -5,8 +5,10 @@ mod endings;
 mod host;
 mod places;
 mod running;
+mod site;
 mod threads;
 mod turns;
 
 pub use host::{Ending, Host};
 pub use running::PureSteps;
+pub use site::Site;

@@ -1,13 +1,13 @@
 //! Pure steps of a thread.
 
 ghost use Rattle.std.specs.Prelude.{◌≡◌, ◌≤◌, IfOk};
-ghost use Rattle.obq_host.specs.Running.{RunsSo};
+ghost use Rattle.obq_host.specs.Running.{OpensSo, RunsSo};
 ghost use Rattle.obq_host.specs.Turns.{IsRunningHere, RunsHere};
 ghost use Rattle.obq_moves.specs.Views.{shown};
 
 use crate::host::Host;
 use crate::places::{put_at, take_at};
-use obq_base::{NoMemory, ThreadId};
+use obq_base::{CodeNo, NoMemory, ThreadId};
 use obq_code::Codes;
 use obq_except::Window;
 use obq_world::{Slice, Stop};
@@ -15,6 +15,10 @@ use std::alloc::Global;
 
 /// How windows do pure steps. The crate that has them stands above this one.
 pub trait PureSteps {
+    /// The window of the code of a source's block, outside of all activations and objects.
+    fn main_window(alloc: Global, main: CodeNo, thread: ThreadId) -> Window
+        ensures { OpensSo main (shown result) };
+
     /// Pure steps of a window until an act or the end stands next, at most so many. After want of memory the window is spent.
     fn run_pure(
         alloc: Global,
