@@ -1,6 +1,10 @@
 //! One site of a program that runs by codes: its cells, the windows of its threads, and how threads ended.
 #![tactic(auto)]
 
+mod acting;
 mod host;
+mod refused;
 
+pub use acting::act_at_one;
 pub use host::{Ending, Host};
+pub use refused::Refused;
