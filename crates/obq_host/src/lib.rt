@@ -4,7 +4,9 @@
 mod acting;
 mod host;
 mod refused;
+mod watching;
 
 pub use acting::act_at_one;
 pub use host::{Ending, Host};
 pub use refused::Refused;
+pub use watching::waits;
