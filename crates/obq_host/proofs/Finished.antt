@@ -1,16 +1,19 @@
 -- What comes of an act that was tried.
-use Rattle.std.specs.Prelude.{List, Option, Some, option_map, ℕ, ◌≡◌}
-use Rattle.std.proofs.Common.{ap, sym, ◌∙◌}
+use Rattle.std.specs.Prelude.{Bool, List, None, Option, Some, option_map, refl, ℕ, ◌≡◌}
+use Rattle.std.proofs.Common.{ap, subst, sym, ◌∙◌}
 use Rattle.obq_base.specs.declared.acts.Act.{Act}
 use Rattle.obq_base.specs.declared.acts.ActKind.{ActKind}
 use Rattle.obq_base.specs.declared.code.SourceCode.{SourceCode}
 use Rattle.obq_base.specs.declared.places.Ref.{Ref}
 use Rattle.obq_except.specs.declared.operations.After.{After}
 use Rattle.obq_except.specs.declared.operations.Operation.{Operation}
+use Rattle.obq_except.specs.declared.operations.Operation.TheVariants as o
 use Rattle.obq_except.specs.declared.windows.Window.{Window}
-use Rattle.obq_heap.specs.Heap.{Heap}
+use Rattle.obq_heap.specs.Heap.{Heap, cell_at, placed_at}
+use Rattle.obq_heap.specs.declared.cells.Cell.{Cell}
 use Rattle.obq_heap.specs.declared.cells.Placed.{Placed}
 use Rattle.obq_host.specs.Acting.{ActsAtOne, CameTo, FinishedAs, TriedAt}
+use Rattle.obq_host.specs.Watching.{ActsAgain, TriedAgain, TriedWatch, is_lined}
 use Rattle.obq_host.specs.declared.acting.Tried.{Tried}
 use Rattle.obq_model.specs.Config.{act}
 use Rattle.obq_moves.specs.Store.{same_ref, store}
@@ -20,11 +23,11 @@ use Rattle.obq_answers.specs.Forms.{answered_at}
 use Rattle.obq_site.proofs.Changes.{left_none}
 use Rattle.obq_site.specs.Acts.{done_at}
 use Rattle.obq_site.specs.Cells.{PlainHeap, plain_cell, plain_heap}
-use Rattle.obq_site.specs.Outcomes.{Acted, How, HowEnds, HowWaits, acted_with, came_to, how}
+use Rattle.obq_site.specs.Outcomes.{Acted, How, HowEnds, HowWaits, acted, acted_with, at_cell, came_to, how}
 use Rattle.obq_windows.specs.Acts.{PlainAnswer}
-use Rattle.obq_windows.specs.Rows.{PlainEnds, PlainOutcome, PlainWaits, plain_row}
-use Rattle.obq_windows.specs.Trees.{PlainOperation}
-use Rattle.obq_windows.specs.Windows.{NodeAfter, node_params}
+use Rattle.obq_windows.specs.Rows.{PlainEnds, PlainOutcome, PlainWaits, again_plain, plain_row}
+use Rattle.obq_windows.specs.Trees.{PlainAgain, PlainOperation}
+use Rattle.obq_windows.specs.Windows.{NodeAct, NodeAfter, node_params}
 
 abbrev kind_in : ActKind → How → ActKind
 kind_in kind HowWaits = kind
@@ -62,4 +65,47 @@ acts_at_one parts t old w tried mid made new h f =
           (h.one.acted ∙ ap (λ o. done_at old o (plain_row (node_params (store parts)) same_ref t (self_of w.current) (plain_operation h.op))) h.one.names
           ∙ ap (λ (o : Option Placed). came_to old h.one.r (plain_row (node_params (store parts)) same_ref t (self_of w.current) (plain_operation h.op) (option_map plain_cell (option_map (λ p. p.cell) o)))) h.one.there)
           h.one.loc (f h.op h.after h.one.place);
+    }
+
+-- a watch that was tried
+pub acts_again : (parts : List SourceCode) (t : ℕ) (old : Heap) (w : Window) (tried : Tried) (mid : Heap) (made : Option Act) (new : Shown) → TriedWatch t old w tried mid
+    → ((op : Operation) (after : After) → place_of op after ≡ tried.place → FinishedAs parts (plain_operation op) (plain_after after) (how tried.outcome) tried.loc (shown w) made new) → ActsAgain parts t old (shown w) made (plain_heap mid) new
+acts_again parts t old w tried mid made new h f =
+    record {
+      object = h.one.object;
+      condition = h.one.condition;
+      after = plain_after h.after;
+      placed = h.one.placed;
+      line = h.one.line;
+      form = ap plain_focus h.form ∙ ap (λ op. NodeAct (plain_operation op) (plain_after h.after)) h.one.operation;
+      there = h.one.there;
+      lines = h.one.lines;
+      came = by_outcome parts (PlainAgain h.one.object h.one.condition) (plain_after h.after) old h.one.object h.one.placed.born tried.loc (shown w) (again_plain t (is_lined t (plain_cell h.one.line.cell)) (Some (plain_cell h.one.placed.cell))) (how tried.outcome) (plain_heap mid) made new
+          (h.one.acted ∙ ap (λ (o : Option Placed). came_to old h.one.object (again_plain t (is_lined t (plain_cell h.one.line.cell)) (option_map plain_cell (option_map (λ p. p.cell) o)))) h.one.there)
+          h.one.loc
+          (subst (λ op. FinishedAs parts (plain_operation op) (plain_after h.after) (how tried.outcome) tried.loc (shown w) made new) h.one.operation (f h.op h.after h.one.place));
+    }
+
+-- ---- a watch that is tried
+
+found_some : {A B : Type 0} → (f : A → B) (o : Option A) (b : B) → option_map f o ≡ Some b → (a : A) × (o ≡ Some a) × (f a ≡ b)
+found_some f None b e = absurd (cc e)
+found_some f (Some a) b e = (a, refl, let same : f a ≡ b = cc e in same)
+
+pub tried_again : (t : ℕ) (op : Operation) (after : After) (old : Heap) (tried : Tried) (new : Heap) (object condition : Ref) (cell : Cell) (lined : Bool) → op ≡ o.Again object condition → option_map (λ p. p.born) (placed_at old object) ≡ Some tried.loc → cell_at old condition ≡ Some cell
+    → lined ≡ is_lined t (plain_cell cell) → place_of op after ≡ tried.place → acted tried.outcome new ≡ at_cell old object (again_plain t lined) → TriedAgain t op after old tried new
+tried_again t op after old tried new object condition cell lined is loc there lines place done =
+    let p : (p : Placed) × (placed_at old object ≡ Some p) × (p.born ≡ tried.loc) = found_some (λ (p : Placed). p.born) (placed_at old object) tried.loc loc in
+    let l : (l : Placed) × (placed_at old condition ≡ Some l) × (l.cell ≡ cell) = found_some (λ (p : Placed). p.cell) (placed_at old condition) cell there in
+    record {
+      object = object;
+      condition = condition;
+      placed = p.0;
+      line = l.0;
+      operation = is;
+      there = p.1;
+      lines = l.1;
+      loc = sym p.2;
+      place = place;
+      acted = done ∙ ap (λ b. at_cell old object (again_plain t b)) (lines ∙ ap (λ (z : Cell). is_lined t (plain_cell z)) (sym l.2));
     }

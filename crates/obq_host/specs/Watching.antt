@@ -1,5 +1,5 @@
 -- Operations that wait, and a watch that takes its object's mutex again.
-use Rattle.std.specs.Prelude.{Bool, List, None, Option, Some, false, is_none, not, true, ℕ, ◌||◌, ◌≡◌}
+use Rattle.std.specs.Prelude.{Bool, List, Option, Some, false, not, ℕ, ◌||◌, ◌≡◌}
 use Rattle.obq_base.specs.declared.acts.Act.{Act}
 use Rattle.obq_base.specs.declared.code.SourceCode.{SourceCode}
 use Rattle.obq_base.specs.declared.places.Ref.{Ref}
@@ -23,7 +23,7 @@ use Rattle.obq_answers.specs.Answers.{place_of}
 use Rattle.obq_site.specs.Cells.{PlainHeap, plain_cell}
 use Rattle.obq_site.specs.Outcomes.{acted, at_cell}
 use Rattle.obq_windows.specs.Rows.{PlainCell, PlainCondition, again_plain, is_plain_free}
-use Rattle.obq_windows.specs.Trees.{PlainAgain, PlainCloning, PlainGet, PlainInvoke, PlainOperation, PlainRedirect, PlainSetAlias, PlainSetMethod, PlainSetValue}
+use Rattle.obq_windows.specs.Trees.{PlainAgain, PlainGet, PlainInvoke, PlainOperation, PlainRedirect, PlainSetAlias, PlainSetMethod, PlainSetValue}
 use Rattle.obq_windows.specs.Windows.{NodeAct, NodeAfter, NodeFocus}
 
 -- ---- operations that wait

@@ -9,4 +9,4 @@ mod watching;
 pub use acting::act_at_one;
 pub use host::{Ending, Host};
 pub use refused::Refused;
-pub use watching::waits;
+pub use watching::{retake, waits};

@@ -116,3 +116,57 @@ pub fn waits(heap: &SiteHeap, thread: ThreadId, w: &Window) -> bool
         _ => false,
     }
 }
+
+// ---- a watch that takes its object's mutex again
+
+fn try_retake(
+    heap: &mut SiteHeap,
+    thread: ThreadId,
+    operation: &Operation,
+    after: After,
+) -> Result<Tried, Refused>
+    ensures { IfOk result (λ tried. TriedAgain thread.0 operation.now after heap.old tried heap.new) }
+{
+    let Operation::Again { object, condition } = operation else {
+        return Err(Refused::Beyond);
+    };
+    let Some(loc) = heap.born(*object) else {
+        return Err(Refused::Beyond);
+    };
+    let Some(line) = heap.get(*condition) else {
+        return Err(Refused::Beyond);
+    };
+    let lined = is_lined(line, thread);
+    let place = place_of(operation, after);
+    let outcome = again(heap, thread, *object, lined);
+    Ok(Tried {
+        outcome,
+        place,
+        loc,
+    })
+}
+
+fn try_watch(heap: &mut SiteHeap, thread: ThreadId, w: &Window) -> Result<Tried, Refused>
+    ensures { IfOk result (λ tried. TriedWatch thread.0 heap.old w.now tried heap.new) }
+{
+    match &w.focus {
+        Focus::Act { operation, after } => try_retake(heap, thread, operation, *after),
+        _ => Err(Refused::Beyond),
+    }
+}
+
+/// Takes the mutex of a watch's object again, at whose form the window is. None where it waits. Another operation, or a watch whose object or
+/// condition isn't here, is beyond this.
+pub fn retake(
+    alloc: Global,
+    codes: &Codes,
+    heap: &mut SiteHeap,
+    thread: ThreadId,
+    w: &mut Window,
+) -> Result<Option<Act>, Refused>
+    ensures { IfOk result (λ made. ActsAgain codes.now thread.0 heap.old (shown w.old) made (plain_heap heap.new) (shown w.new)) }
+{
+    let tried = try_watch(heap, thread, w)?;
+    let made = finish(alloc, codes, w, tried)?;
+    Ok(made)
+}
