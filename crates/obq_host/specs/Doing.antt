@@ -1,15 +1,16 @@
 -- What acts of a window at the cells of its site are for a World whose only site has these cells.
-use Rattle.std.specs.Prelude.{List, None, Option, Some, ℕ, ◌≡◌}
+use Rattle.std.specs.Prelude.{List, None, Option, Some, true, ℕ, ◌≡◌}
 use Rattle.obq_base.specs.declared.acts.Act.{Act}
 use Rattle.obq_base.specs.declared.code.SourceCode.{SourceCode}
 use Rattle.obq_base.specs.declared.places.Ref.{Ref}
 use Rattle.obq_heap.specs.Heap.{Heap}
 use Rattle.obq_host.specs.Acting.{ActsAtOne}
 use Rattle.obq_host.specs.Seen.{HeapIs}
+use Rattle.obq_host.specs.Watching.{ActsAgain, waits_in}
 use Rattle.obq_model.specs.Cells.{again_row, cell_row}
 use Rattle.obq_model.specs.Effect.{in_line, line_of}
 use Rattle.obq_model.specs.OneCell.{cell_of}
-use Rattle.obq_model.specs.Step.{Again, Frame, Needs, Operation, Self, find, plug, self_at}
+use Rattle.obq_model.specs.Step.{Again, Frame, Needs, Next, Operation, Self, find, plug, self_at}
 use Rattle.obq_model.specs.Terms.{Term}
 use Rattle.obq_moves.specs.Store.{store}
 use Rattle.obq_moves.specs.Views.{Shown}
@@ -19,7 +20,9 @@ use Rattle.obq_stands.specs.Sites.{Did}
 use Rattle.obq_stands.specs.World.{Born, Ends, Idle, same_ref}
 use Rattle.obq_stands.specs.World as world
 use Rattle.obq_windows.specs.Agrees.{Agrees}
+use Rattle.obq_windows.specs.Trees.{PlainOperation}
 use Rattle.obq_windows.specs.Values.{Table}
+use Rattle.obq_windows.specs.Windows.{NodeAct, NodeAfter}
 
 -- thread t does this act of this operation, for which so many cells were made before and behind it; the cells and the window behind it read back so
 pub record IsDone (parts : List SourceCode) (T : Table Ref) (t a : ℕ) (self : Self world.Ref) (h : world.Heap) (o : Operation world.Ref) (around : List (Frame world.Ref)) (before after : ℕ) (act : Act) (left : PlainHeap) (new : Shown) : Type 0 where
@@ -54,3 +57,26 @@ OneMeans =
     → (h : world.Heap) → HeapIs T (plain_heap cells) h → (a : ℕ) (self : Self world.Ref) (u : Term world.Ref) → SeenAs parts T a self old u
     → (o : Operation world.Ref) (around : List (Frame world.Ref)) → find same_ref a self u ≡ Needs o around → (count : ℕ)
     → Means parts T t a self h o around count count (plain_heap cells) old made left new
+
+-- a watch that takes its object's mutex again
+abbrev pub AgainMeans : Type 0
+AgainMeans =
+    (parts : List SourceCode) (T : Table Ref) → Agrees T (store parts)
+    → (t : ℕ) (cells : Heap) (old : Shown) (made : Option Act) (left : PlainHeap) (new : Shown) → ActsAgain parts t cells old made left new
+    → (h : world.Heap) → HeapIs T (plain_heap cells) h → (a : ℕ) (self : Self world.Ref) (u : Term world.Ref) → SeenAs parts T a self old u
+    → (o : Operation world.Ref) (around : List (Frame world.Ref)) → find same_ref a self u ≡ Needs o around → (count : ℕ)
+    → Means parts T t a self h o around count count (plain_heap cells) old made left new
+
+-- an act that waits
+abbrev pub WaitsMean : Type 0
+WaitsMean =
+    (parts : List SourceCode) (T : Table Ref) → Agrees T (store parts)
+    → (t : ℕ) (cells : Heap) (w : Shown) → waits_in t w cells ≡ true → (h : world.Heap) → HeapIs T (plain_heap cells) h → (a : ℕ) (self : Self world.Ref) (u : Term world.Ref) → SeenAs parts T a self w u
+    → (o : Operation world.Ref) × (around : List (Frame world.Ref)) × (find same_ref a self u ≡ Needs o around) × IsIdle h t (self_at self around) o
+
+-- where an act's form is in the focus, and no pure step stands next, an act does
+abbrev pub FormDue : Type 0
+FormDue =
+    (parts : List SourceCode) (T : Table Ref) → Agrees T (store parts)
+    → (w : Shown) (a : ℕ) (self : Self world.Ref) (u : Term world.Ref) → SeenAs parts T a self w u → (op : PlainOperation Ref) (after : NodeAfter) → w.focus ≡ NodeAct op after → ((x : Term world.Ref) → find same_ref a self u ≡ Next x → ⊥)
+    → (o : Operation world.Ref) × (around : List (Frame world.Ref)) × (find same_ref a self u ≡ Needs o around)

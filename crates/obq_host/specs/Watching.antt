@@ -1,5 +1,5 @@
 -- Operations that wait, and a watch that takes its object's mutex again.
-use Rattle.std.specs.Prelude.{Bool, List, Option, Some, false, not, ℕ, ◌||◌, ◌≡◌}
+use Rattle.std.specs.Prelude.{Bool, List, Option, Some, false, not, ℕ, ◌||◌, ◌≡◌, ◌&&◌}
 use Rattle.obq_base.specs.declared.acts.Act.{Act}
 use Rattle.obq_base.specs.declared.code.SourceCode.{SourceCode}
 use Rattle.obq_base.specs.declared.places.Ref.{Ref}
@@ -16,7 +16,7 @@ use Rattle.obq_host.specs.Acting.{CameTo}
 use Rattle.obq_host.specs.declared.acting.Tried.{Tried}
 use Rattle.obq_model.specs.Cells.{is_clear}
 use Rattle.obq_model.specs.Effect.{in_line}
-use Rattle.obq_model.specs.Step.{Self}
+use Rattle.obq_model.specs.Step.{Self, is_call_limit}
 use Rattle.obq_moves.specs.Store.{same_ref}
 use Rattle.obq_moves.specs.Views.{Shown}
 use Rattle.obq_answers.specs.Answers.{place_of}
@@ -43,19 +43,24 @@ abbrev pub is_kept_out : ℕ → (object condition : Option Cell) → Bool
 is_kept_out t (Some object) (Some condition) = is_lined t (plain_cell condition) || not (is_plain_free (Some (plain_cell object)))
 is_kept_out t object condition = false
 
-abbrev pub waits_now : ℕ → Self Ref → PlainOperation Ref → Heap → Bool
-waits_now t s (PlainGet object x) h = is_held s object (cell_at h object)
-waits_now t s (PlainInvoke object x vs) h = is_held s object (cell_at h object)
-waits_now t s (PlainSetValue object x v) h = is_held s object (cell_at h object)
-waits_now t s (PlainSetMethod object x m) h = is_held s object (cell_at h object)
-waits_now t s (PlainSetAlias object x q y) h = is_held s object (cell_at h object)
-waits_now t s (PlainRedirect object target) h = is_held s object (cell_at h object)
-waits_now t s (PlainAgain object condition) h = is_kept_out t (cell_at h object) (cell_at h condition)
-waits_now t s op h = false
+-- with this current self inside so many activations
+abbrev pub waits_now : (t : ℕ) → Self Ref → (activations : ℕ) → PlainOperation Ref → Heap → Bool
+waits_now t s a (PlainGet object x) h = is_held s object (cell_at h object)
+waits_now t s a (PlainInvoke object x vs) h = not (is_call_limit a) && is_held s object (cell_at h object)
+waits_now t s a (PlainSetValue object x v) h = is_held s object (cell_at h object)
+waits_now t s a (PlainSetMethod object x m) h = is_held s object (cell_at h object)
+waits_now t s a (PlainSetAlias object x q y) h = is_held s object (cell_at h object)
+waits_now t s a (PlainRedirect object target) h = is_held s object (cell_at h object)
+waits_now t s a (PlainAgain object condition) h = is_kept_out t (cell_at h object) (cell_at h condition)
+waits_now t s a op h = false
 
-abbrev pub waits_in : ℕ → Self Ref → NodeFocus Ref → Heap → Bool
-waits_in t s (NodeAct op after) h = waits_now t s op h
-waits_in t s x h = false
+abbrev pub waits_at : (t : ℕ) → Self Ref → (activations : ℕ) → NodeFocus Ref → Heap → Bool
+waits_at t s a (NodeAct op after) h = waits_now t s a op h
+waits_at t s a x h = false
+
+-- the window of thread t is at the form of such an operation
+abbrev pub waits_in : ℕ → Shown → Heap → Bool
+waits_in t w h = waits_at t w.current w.activations w.focus h
 
 -- ---- a watch that takes its mutex again
 

@@ -6,14 +6,16 @@ ghost use Rattle.obq_heap.specs.Reading.{numbers};
 ghost use Rattle.obq_host.specs.Watching.{ActsAgain, TriedAgain, TriedWatch, is_held, is_kept_out, is_lined, waits_in, waits_now};
 ghost use Rattle.obq_model.specs.Cells.{is_object};
 ghost use Rattle.obq_model.specs.Effect.{in_line};
+ghost use Rattle.obq_model.specs.Step.{is_call_limit};
 ghost use Rattle.obq_moves.specs.Store.{same_ref};
-ghost use Rattle.obq_moves.specs.Views.{plain_focus, plain_operation, self_of, shown};
+ghost use Rattle.obq_moves.specs.Views.{plain_operation, self_of, shown};
 ghost use Rattle.obq_site.specs.Cells.{plain_cell, plain_heap};
 ghost use Rattle.obq_windows.specs.Rows.{is_plain_free};
 
 use crate::acting::{Tried, finish};
 use crate::refused::Refused;
 use obq_answers::place_of;
+use obq_base::limits::CALL_LIMIT;
 use obq_base::{Act, Ref, ThreadId};
 use obq_code::Codes;
 use obq_except::{After, CurrentSelf, Focus, Operation, Window};
@@ -92,12 +94,27 @@ fn is_kept_out(heap: &SiteHeap, thread: ThreadId, object: Ref, condition: Ref) -
     is_lined(condition, thread) || !is_free(object)
 }
 
-fn waits_now(heap: &SiteHeap, thread: ThreadId, current: CurrentSelf, operation: &Operation) -> bool
-    ensures { result ≡ waits_now thread.0 (self_of current) (plain_operation operation.now) heap.now }
+/// Whether there may be no further activation.
+fn is_call_limit(activations: u32) -> bool
+    ensures { result ≡ is_call_limit activations }
+{
+    CALL_LIMIT <= activations
+}
+
+fn waits_now(
+    heap: &SiteHeap,
+    thread: ThreadId,
+    current: CurrentSelf,
+    activations: u32,
+    operation: &Operation,
+) -> bool
+    ensures { result ≡ waits_now thread.0 (self_of current) activations (plain_operation operation.now) heap.now }
 {
     match operation {
         Operation::Get { object, .. } => is_held_at(heap, current, *object),
-        Operation::Invoke { object, .. } => is_held_at(heap, current, *object),
+        Operation::Invoke { object, .. } => {
+            !is_call_limit(activations) && is_held_at(heap, current, *object)
+        }
         Operation::SetValue { object, .. } => is_held_at(heap, current, *object),
         Operation::SetMethod { object, .. } => is_held_at(heap, current, *object),
         Operation::SetAlias { object, .. } => is_held_at(heap, current, *object),
@@ -109,10 +126,16 @@ fn waits_now(heap: &SiteHeap, thread: ThreadId, current: CurrentSelf, operation:
 
 /// Whether the act at whose form the window is waits. It may also be told `false` of one that waits.
 pub fn waits(heap: &SiteHeap, thread: ThreadId, w: &Window) -> bool
-    ensures { result ≡ waits_in thread.0 (self_of w.now.current) (plain_focus w.now.focus) heap.now }
+    ensures { result ≡ waits_in thread.0 (shown w.now) heap.now }
 {
     match &w.focus {
-        Focus::Act { operation, .. } => waits_now(heap, thread, w.current, operation),
+        Focus::Act { operation, .. } => waits_now(
+            heap,
+            thread,
+            w.current,
+            w.activations,
+            operation,
+        ),
         _ => false,
     }
 }
