@@ -1,5 +1,7 @@
 -- What comes of an act that was tried.
-use Rattle.std.specs.Prelude.{Bool, List, None, Option, Some, option_map, refl, ℕ, ◌≡◌}
+use Rattle.obq_site.specs.Making.{made_with, next_ref}
+use Rattle.obq_host.specs.NewCells.{MakesCell, TriedNew}
+use Rattle.std.specs.Prelude.{Bool, List, None, Option, Some, option_map, refl, ℕ, ◌≡◌, is_some, true}
 use Rattle.std.proofs.Common.{ap, subst, sym, ◌∙◌}
 use Rattle.obq_base.specs.declared.acts.Act.{Act}
 use Rattle.obq_base.specs.declared.acts.ActKind.{ActKind}
@@ -22,10 +24,10 @@ use Rattle.obq_answers.specs.Answers.{place_of}
 use Rattle.obq_answers.specs.Forms.{answered_at}
 use Rattle.obq_site.proofs.Changes.{left_none}
 use Rattle.obq_site.specs.Acts.{done_at}
-use Rattle.obq_site.specs.Cells.{PlainHeap, plain_cell, plain_heap}
+use Rattle.obq_site.specs.Cells.{PlainHeap, plain_cell, plain_heap, one_more}
 use Rattle.obq_site.specs.Outcomes.{Acted, How, HowEnds, HowWaits, acted, acted_with, at_cell, came_to, how}
 use Rattle.obq_windows.specs.Acts.{PlainAnswer}
-use Rattle.obq_windows.specs.Rows.{PlainEnds, PlainOutcome, PlainWaits, again_plain, plain_row}
+use Rattle.obq_windows.specs.Rows.{PlainEnds, PlainOutcome, PlainWaits, again_plain, plain_row, PlainCell, new_answer, new_cell}
 use Rattle.obq_windows.specs.Trees.{PlainAgain, PlainOperation}
 use Rattle.obq_windows.specs.Windows.{NodeAct, NodeAfter, node_params}
 
@@ -109,3 +111,27 @@ tried_again t op after old tried new object condition cell lined is loc there li
       place = place;
       acted = done ∙ ap (λ b. at_cell old object (again_plain t b)) (lines ∙ ap (λ (z : Cell). is_lined t (plain_cell z)) (sym l.2));
     }
+
+-- ---- a cell that is made
+
+-- by the outcome
+by_new : (parts : List SourceCode) (op : PlainOperation Ref) (after : NodeAfter) (born loc : ℕ) (cells : Heap) (cell : Option (PlainCell Ref)) (h : How) (left : PlainHeap) (old : Shown) (done : Act) (new : Shown)
+    → is_some cell ≡ true → acted_with h left ≡ made_with cells born op cell → loc ≡ born → FinishedAs parts op after h loc old (Some done) new
+    → (c : PlainCell Ref) × (cell ≡ Some c) × (done ≡ act ActKind.New born) × (left ≡ one_more cells c born) × (new ≡ answered_at parts op after (new_answer op (next_ref cells c)) old)
+by_new parts op after born loc cells None h left old done new s e l f = absurd (cc s)
+by_new parts op after born loc cells (Some c) HowWaits left old done new s e l f = absurd (let w : HowWaits ≡ HowEnds ActKind.New (new_answer op (next_ref cells c)) = ap (λ (a : Acted). a.how) e in cc w)
+by_new parts op after born loc cells (Some c) (HowEnds k a) left old done new s e l f =
+    let w : HowEnds k a ≡ HowEnds ActKind.New (new_answer op (next_ref cells c)) = ap (λ (a : Acted). a.how) e in
+    let d : done ≡ act k loc = let g : Some done ≡ Some (act k loc) = f.0 in cc g in (
+      c,
+      refl,
+      d ∙ ap (act k) l ∙ ap (λ z. act z born) (ap (kind_in k) w),
+      ap (λ (a : Acted). a.heap) e,
+      f.1 ∙ ap (λ z. answered_at parts op after z old) (ap (answer_in a) w),
+    )
+
+pub makes_cell : (parts : List SourceCode) (born : ℕ) (old : Heap) (w : Window) (tried : Tried) (mid : Heap) (done : Act) (new : Shown) → TriedNew born old w tried mid
+    → ((op : Operation) (after : After) → place_of op after ≡ tried.place → FinishedAs parts (plain_operation op) (plain_after after) (how tried.outcome) tried.loc (shown w) (Some done) new) → MakesCell parts old born (shown w) done (plain_heap mid) new
+makes_cell parts born old w tried mid done new h f =
+    let m = by_new parts (plain_operation h.op) (plain_after h.after) born tried.loc old (new_cell (plain_operation h.op)) (how tried.outcome) (plain_heap mid) (shown w) done new h.one.makes h.one.acted h.one.loc (f h.op h.after h.one.place) in
+    record { op = plain_operation h.op; after = plain_after h.after; cell = m.0; form = ap plain_focus h.form; makes = m.1; act_is = m.2; left_is = m.3; window = m.4 }
