@@ -1,5 +1,7 @@
 -- What stands next where an act's form is in the focus, and acts that wait.
-use Rattle.std.specs.Prelude.{Bool, List, None, Option, Some, false, if◌then◌else◌, not, option_map, refl, true, ℕ, ◌&&◌, ◌||◌, ◌≡◌, ◌⊎◌}
+use Rattle.obq_model.specs.Store.{twice}
+use Rattle.obq_host.specs.NewCells.{NamesDiffer, NamesDifferIn}
+use Rattle.std.specs.Prelude.{Bool, List, None, Option, Some, false, if◌then◌else◌, not, option_map, refl, true, ℕ, ◌&&◌, ◌||◌, ◌≡◌, ◌⊎◌, [], ◌∷◌, codes}
 use Rattle.std.proofs.Common.{ap, inl, inr, subst, sym, ◌∙◌}
 use Rattle.obq_base.specs.declared.code.SourceCode.{SourceCode}
 use Rattle.obq_base.specs.declared.places.Ref.{Ref}
@@ -9,14 +11,14 @@ use Rattle.obq_heap.specs.Reading.{owner_number}
 use Rattle.obq_heap.specs.declared.cells.Cell.{Cell}
 use Rattle.obq_heap.specs.declared.cells.Placed.{Placed}
 use Rattle.obq_host.specs.Acting.{ActsAtOne, CameTo}
-use Rattle.obq_host.specs.Doing.{FormDue, IsIdle, WaitsMean}
+use Rattle.obq_host.specs.Doing.{FormDue, IsIdle, WaitsMean, NamesDue}
 use Rattle.obq_host.specs.Seen.{HeapIs}
 use Rattle.obq_host.specs.Watching.{ActsAgain, is_held, is_kept_out, is_lined, waits_at, waits_now}
 use Rattle.obq_host.proofs.Meant.{again_means, one_means}
 use Rattle.obq_model.specs.Cells.{is_clear}
 use Rattle.obq_model.specs.Maps.{map_found, map_frames, map_operation, map_term}
 use Rattle.obq_model.specs.Step.{Found, Frame, Needs, Next, Operation, Self, find, is_call_limit, self_at}
-use Rattle.obq_model.specs.Terms.{Term}
+use Rattle.obq_model.specs.Terms.{Term, Exn}
 use Rattle.obq_moves.specs.Store.{store}
 use Rattle.obq_moves.specs.Store as held
 use Rattle.obq_moves.specs.Views.{Shown}
@@ -38,7 +40,7 @@ use Rattle.obq_windows.specs.Laws.{Reads}
 use Rattle.obq_windows.specs.Meanings.{Moves}
 use Rattle.obq_windows.specs.Moves.{act_ends, tree_act, tree_refused, count_activations}
 use Rattle.obq_windows.specs.Rows.{PlainOutcome, PlainWaits, is_plain_free, object_plain, plain_row}
-use Rattle.obq_windows.specs.Trees.{Kept, KeptRaising, KeptValue, PlainAgain, PlainField, PlainGet, PlainInvoke, PlainOperation, PlainRedirect, PlainSetAlias, PlainSetMethod, PlainSetValue, TreeAct, TreeAfter, TreeFocus, TreeFrame, term_of}
+use Rattle.obq_windows.specs.Trees.{Kept, KeptRaising, KeptValue, PlainAgain, PlainField, PlainGet, PlainInvoke, PlainOperation, PlainRedirect, PlainSetAlias, PlainSetMethod, PlainSetValue, TreeAct, TreeAfter, TreeFocus, TreeFrame, term_of, PlainCloning, plain_names}
 use Rattle.obq_windows.specs.Values.{Table, tree_params}
 use Rattle.obq_windows.specs.Windows.{NodeAct, NodeAfter, NodeFocus, node_params}
 
@@ -195,3 +197,21 @@ waits_mean parts T g t cells w waiting h i a self u k = at w.focus refl waiting 
       needed (act_ends (tree_params T) (tree_refused T) w.activations op) (find same_ref a self u) (no_end T t cells w.current w.activations op q f.complete) f.next in
       by_stay parts T g t cells w h i a self u k n.0 n.1 n.2 (stays parts t cells w op after e q)
   at x e q = absurd (cc q)
+
+-- ---- an object that is to be made
+
+not_ended : (b : Bool) (k : Kept Ref) (found : Found world.Ref) → NextBy (if b then Some k else None) found → ((x : Term world.Ref) → found ≡ Next x → ⊥) → b ≡ false
+not_ended true k found h none = absurd (none h.0 h.1)
+not_ended false k found h none = refl
+
+differ : (T : Table Ref) (a : ℕ) (op : PlainOperation Ref) (found : Found world.Ref) → NextBy (act_ends (tree_params T) (tree_refused T) a op) found → ((x : Term world.Ref) → found ≡ Next x → ⊥) → NamesDiffer op
+differ T a (PlainCloning (Some flags) fields []) found h none = not_ended (twice (plain_names fields)) (KeptRaising (Exn (codes "field_twice"))) found h none
+differ T a (PlainCloning (Some flags) fields (o ∷ rest)) found h none = tt
+differ T a (PlainCloning None fields rest) found h none = tt
+differ T a op found h none = tt
+
+pub names_due : NamesDue
+names_due parts T g w a self u k none = at w.focus refl where
+  at : (x : NodeFocus Ref) → w.focus ≡ x → NamesDifferIn x
+  at (NodeAct op after) e = differ T w.activations op (find same_ref a self u) (at_form parts T g w a self u k op after e).next none
+  at x e = tt

@@ -1,6 +1,7 @@
 -- Acts at one cell are those of a World.
+use Rattle.obq_site.specs.Making.{next_ref}
 use Rattle.obq_host.specs.Watching.{is_lined}
-use Rattle.std.specs.Prelude.{List, None, Option, Some, [], option_map, refl, ℕ, ◌∷◌, ◌≡◌, Bool, false, true, if◌then◌else◌, not, ◌||◌}
+use Rattle.std.specs.Prelude.{List, None, Option, Some, [], option_map, refl, ℕ, ◌∷◌, ◌≡◌, Bool, false, true, if◌then◌else◌, not, ◌||◌, suc}
 use Rattle.std.proofs.Common.{ap, inl, inr, subst, sym, ◌∙◌}
 use Rattle.obq_base.specs.declared.acts.Act.{Act}
 use Rattle.obq_base.specs.declared.acts.ActKind.{ActKind}
@@ -9,10 +10,10 @@ use Rattle.obq_base.specs.declared.places.Ref.{Ref}
 use Rattle.obq_heap.specs.Heap.{Heap, placed_at}
 use Rattle.obq_heap.specs.declared.cells.Placed.{Placed}
 use Rattle.obq_host.specs.Acting.{CameTo}
-use Rattle.obq_host.specs.Doing.{IdleAtOne, Means, OneMeans, IdleAgain, AgainMeans}
+use Rattle.obq_host.specs.Doing.{IdleAtOne, Means, OneMeans, IdleAgain, AgainMeans, NewMeans, IsDone}
 use Rattle.obq_host.specs.Seen.{HeapIs, seen_placed}
-use Rattle.obq_host.proofs.Standing.{KindKept, kinds_same, left_reads, named, seen_at}
-use Rattle.obq_model.specs.Cells.{again_row, cell_row}
+use Rattle.obq_host.proofs.Standing.{KindKept, kinds_same, left_reads, named, seen_at, made_reads}
+use Rattle.obq_model.specs.Cells.{again_row, cell_row, after_new}
 use Rattle.obq_model.specs.Effect.{in_line, line_of}
 use Rattle.obq_model.specs.Maps.{map_operation}
 use Rattle.obq_model.specs.OneCell.{RowLeaves, SameKind, behind, cell_of}
@@ -23,14 +24,14 @@ use Rattle.obq_model.proofs.OneCell.{leaves_cell}
 use Rattle.obq_moves.specs.Store.{store}
 use Rattle.obq_moves.specs.Store as held
 use Rattle.obq_moves.specs.Views.{Shown}
-use Rattle.obq_answers.proofs.SeenActs.{cell_seen, form_seen, retake_seen}
-use Rattle.obq_answers.specs.Worlds.{FormShows, RowSeen, SeenAs, SeenForm, seen, seen_cell}
+use Rattle.obq_answers.proofs.SeenActs.{cell_seen, form_seen, retake_seen, new_seen}
+use Rattle.obq_answers.specs.Worlds.{FormShows, RowSeen, SeenAs, SeenForm, seen, seen_cell, NewCellSeen}
 use Rattle.obq_site.specs.Acts as site
-use Rattle.obq_site.specs.Cells.{PlainHeap, plain_cell, plain_heap, plain_placed}
+use Rattle.obq_site.specs.Cells.{PlainHeap, plain_cell, plain_heap, plain_placed, one_more}
 use Rattle.obq_site.specs.Outcomes.{left_of}
-use Rattle.obq_stands.specs.Sites.{AtCell, Retook}
+use Rattle.obq_stands.specs.Sites.{AtCell, Retook, Did, Made}
 use Rattle.obq_stands.specs.Sites as sites
-use Rattle.obq_stands.specs.World.{Born, Ends, Idle, Row, same_ref}
+use Rattle.obq_stands.specs.World.{Born, Ends, Idle, Row, same_ref, with_ref}
 use Rattle.obq_stands.specs.World as world
 use Rattle.obq_windows.specs.Acts.{AnswerTest}
 use Rattle.obq_windows.specs.Rows.{CompleteCell, PlainArray, PlainCell, PlainCondition, PlainEnds, PlainEngine, PlainObject, PlainOutcome, PlainVariable, PlainWaits, PlainWriter, again_plain, is_plain_free, plain_owned, plain_row}
@@ -187,3 +188,20 @@ again_means parts T g t cells old made left new k h i a self u like o around nex
     (subst (λ (b : Bool). RowSeen parts T a self old (PlainAgain k.object k.condition) k.after around (again_plain t lined (Some cell)) (again_row Ends Idle t b (seen k.object) (seen k.condition) r.0 (Some (seen_cell T cell)))) (sym (lined_seen T t (plain_cell k.line.cell)))
     (r.2 t lined (Some cell) (is_complete T cells h i k.object k.placed k.there)))
     count made left new k.came)
+
+-- ---- a new cell
+
+pub new_means : NewMeans
+new_means parts T g cells born old done left new k h i a self u like o around next t =
+    let s : SeenForm parts T a self old u k.op k.after o around = record { like = like; form = k.form; next = next } in
+    let r : Ref = next_ref cells k.cell in
+    let n : NewCellSeen parts T a self old k.op k.after o around k.cell r = new_seen parts T g a self old u k.op k.after o around s k.cell k.makes r in
+    let m : (h (seen r) ≡ None) × HeapIs T (one_more cells k.cell born) (with_ref h (seen r) (Some (record { born = born; cell = seen_cell T k.cell }))) = made_reads T cells k.cell born n.complete h i in
+    subst (λ (z : Act). IsDone parts T t a self h o around born (suc born) z left new) (sym k.act_is) (record {
+      behind = with_ref h (seen r) (Some (record { born = born; cell = seen_cell T k.cell }));
+      x = after_new n.place (seen r) (seen_cell T k.cell);
+      did = subst (λ (z : Operation world.Ref). Did 0 h born t (self_at self around) z ActKind.New born (with_ref h (seen r) (Some (record { born = born; cell = seen_cell T k.cell }))) (suc born) (after_new n.place (seen r) (seen_cell T k.cell))) (sym n.operation)
+          (Made (seen r) (seen_cell T k.cell) n.place i.site m.0);
+      heap = subst (λ z. HeapIs T z (with_ref h (seen r) (Some (record { born = born; cell = seen_cell T k.cell })))) (sym k.left_is) m.1;
+      reads = subst (λ z. SeenAs parts T a self z (plug around (after_new n.place (seen r) (seen_cell T k.cell)))) (sym k.window) (n.reads old.focus);
+    })

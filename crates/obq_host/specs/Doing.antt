@@ -1,5 +1,6 @@
 -- What acts of a window at the cells of its site are for a World whose only site has these cells.
-use Rattle.std.specs.Prelude.{List, None, Option, Some, true, ℕ, ◌≡◌}
+use Rattle.obq_host.specs.NewCells.{MakesCell, NamesDifferIn}
+use Rattle.std.specs.Prelude.{List, None, Option, Some, true, ℕ, ◌≡◌, suc}
 use Rattle.obq_base.specs.declared.acts.Act.{Act}
 use Rattle.obq_base.specs.declared.code.SourceCode.{SourceCode}
 use Rattle.obq_base.specs.declared.places.Ref.{Ref}
@@ -80,3 +81,18 @@ FormDue =
     (parts : List SourceCode) (T : Table Ref) → Agrees T (store parts)
     → (w : Shown) (a : ℕ) (self : Self world.Ref) (u : Term world.Ref) → SeenAs parts T a self w u → (op : PlainOperation Ref) (after : NodeAfter) → w.focus ≡ NodeAct op after → ((x : Term world.Ref) → find same_ref a self u ≡ Next x → ⊥)
     → (o : Operation world.Ref) × (around : List (Frame world.Ref)) × (find same_ref a self u ≡ Needs o around)
+
+-- a new cell
+abbrev pub NewMeans : Type 0
+NewMeans =
+    (parts : List SourceCode) (T : Table Ref) → Agrees T (store parts)
+    → (cells : Heap) (born : ℕ) (old : Shown) (done : Act) (left : PlainHeap) (new : Shown) → MakesCell parts cells born old done left new
+    → (h : world.Heap) → HeapIs T (plain_heap cells) h → (a : ℕ) (self : Self world.Ref) (u : Term world.Ref) → SeenAs parts T a self old u
+    → (o : Operation world.Ref) (around : List (Frame world.Ref)) → find same_ref a self u ≡ Needs o around → (t : ℕ)
+    → IsDone parts T t a self h o around born (suc born) done left new
+
+-- where no pure step stands next, an object that is to be made has no name twice
+abbrev pub NamesDue : Type 0
+NamesDue =
+    (parts : List SourceCode) (T : Table Ref) → Agrees T (store parts)
+    → (w : Shown) (a : ℕ) (self : Self world.Ref) (u : Term world.Ref) → SeenAs parts T a self w u → ((x : Term world.Ref) → find same_ref a self u ≡ Next x → ⊥) → NamesDifferIn w.focus

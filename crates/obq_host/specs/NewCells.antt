@@ -1,5 +1,5 @@
 -- Acts of a window that make a cell.
-use Rattle.std.specs.Prelude.{List, Some, false, is_some, true, ℕ, ◌≡◌}
+use Rattle.std.specs.Prelude.{List, Some, false, is_some, true, ℕ, ◌≡◌, []}
 use Rattle.obq_base.specs.declared.acts.Act.{Act}
 use Rattle.obq_base.specs.declared.acts.ActKind.{ActKind}
 use Rattle.obq_base.specs.declared.code.SourceCode.{SourceCode}
@@ -22,9 +22,9 @@ use Rattle.obq_windows.specs.Rows.{PlainCell, new_answer, new_cell}
 use Rattle.obq_windows.specs.Trees.{PlainCloning, PlainOperation, plain_names}
 use Rattle.obq_windows.specs.Windows.{NodeAct, NodeAfter, NodeFocus}
 
--- no two fields of a clone have the same name
+-- no two fields of an object that is to be made have the same name
 abbrev pub NamesDiffer : PlainOperation Ref → Type 0
-NamesDiffer (PlainCloning flags fields rest) = twice (plain_names fields) ≡ false
+NamesDiffer (PlainCloning (Some flags) fields []) = twice (plain_names fields) ≡ false
 NamesDiffer op = Unit {0}
 
 abbrev pub NamesDifferIn : NodeFocus Ref → Type 0

@@ -30,7 +30,7 @@ fn make_object(
     born: u64,
 ) -> Result<Outcome, Refused>
     requires room { length heap.old.cells < 2 ^ 32 }
-    requires names { twice (plain_names (plain_fields copied.now)) ≡ false }
+    requires names { NamesDiffer (PlainCloning flags (plain_fields copied.now) rest.now) }
     ensures makes { IfOk result (λ outcome. is_some (new_cell (PlainCloning flags (plain_fields copied.now) rest.now)) ≡ true) }
     ensures acted { IfOk result (λ outcome. acted outcome heap.new ≡ made heap.old born (PlainCloning flags (plain_fields copied.now) rest.now)) }
 {
