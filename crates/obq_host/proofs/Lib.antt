@@ -1,3 +1,4 @@
+pub mod Behind
 pub mod Due
 pub mod Finished
 pub mod Meant

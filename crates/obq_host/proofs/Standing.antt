@@ -280,7 +280,7 @@ push_complete T h p c old m x e (inl same) =
     subst (λ (z : PlainPlaced). CompleteCell T z.cell) is c
 push_complete T h p c old m x e (inr other) = old m x (sym (push_other h.cells p m other) ∙ e)
 
-map_length : {A B : Type 0} → (f : A → B) (xs : List A) → length (map f xs) ≡ length xs
+pub map_length : {A B : Type 0} → (f : A → B) (xs : List A) → length (map f xs) ≡ length xs
 map_length f [] = refl
 map_length f (x ∷ xs) = ap suc (map_length f xs)
 

@@ -4,11 +4,13 @@
 mod acting;
 mod host;
 mod new_cells;
+mod on_cells;
 mod refused;
 mod watching;
 
 pub use acting::act_at_one;
 pub use host::{Ending, Host};
 pub use new_cells::make_cell;
+pub use on_cells::{CellAct, act_on_cells};
 pub use refused::Refused;
 pub use watching::{retake, waits};
