@@ -202,7 +202,7 @@ pub left_reads : (T : Table Ref) (h : Heap) (r : Ref) (p : Placed) → placed_at
     → HeapIs T (left_in h r left) (sites.left_at g (seen r) p.born (option_map (seen_cell T) left))
 left_reads T h r p e left k c g i = subst (λ (o : Option Placed). HeapIs T (left_at h r.n o left) (sites.left_at g (seen r) p.born (option_map (seen_cell T) left))) (sym e) (left_by T h r p e left k c g i)
 
-kinds_same : (T : Table Ref) (a b : PlainCell Ref) → SameKind (Some (seen_cell T a)) (Some (seen_cell T b)) → kind_for b ≡ kind_for a
+pub kinds_same : (T : Table Ref) (a b : PlainCell Ref) → SameKind (Some (seen_cell T a)) (Some (seen_cell T b)) → kind_for b ≡ kind_for a
 kinds_same T (PlainObject flags owner fields) (PlainObject flags2 owner2 fields2) s = refl
 kinds_same T (PlainObject flags owner fields) (PlainArray vs2) s = absurd s
 kinds_same T (PlainObject flags owner fields) (PlainVariable v2) s = absurd s
@@ -280,7 +280,7 @@ push_complete T h p c old m x e (inl same) =
     subst (λ (z : PlainPlaced). CompleteCell T z.cell) is c
 push_complete T h p c old m x e (inr other) = old m x (sym (push_other h.cells p m other) ∙ e)
 
-map_length : {A B : Type 0} → (f : A → B) (xs : List A) → length (map f xs) ≡ length xs
+pub map_length : {A B : Type 0} → (f : A → B) (xs : List A) → length (map f xs) ≡ length xs
 map_length f [] = refl
 map_length f (x ∷ xs) = ap suc (map_length f xs)
 
