@@ -1,6 +1,6 @@
 //! Acts of a window at the cells of its site.
 
-ghost use Rattle.std.specs.Prelude.{◌≡◌, IfOk, IsTrue};
+ghost use Rattle.std.specs.Prelude.{◌≡◌, IfOk, IsTrue, None, Some};
 ghost use Rattle.obq_answers.specs.Answers.{IsOfObject, place_of, plain_answer};
 ghost use Rattle.obq_except.specs.declared.operations.After.{After};
 ghost use Rattle.obq_except.specs.declared.operations.Operation.{Operation};
@@ -76,8 +76,8 @@ fn end(
     kind: ActKind,
     answer: obq_site::Answer,
     loc: u64,
-) -> Result<Option<Act>, Refused>
-    ensures { (op : Operation) (after : After) → place_of op after ≡ place → IfOk result (λ made. FinishedAs codes.now (plain_operation op) (plain_after after) (site.HowEnds kind (site.plain_answer answer)) loc (shown w.old) made (shown w.new)) }
+) -> Result<Act, Refused>
+    ensures { (op : Operation) (after : After) → place_of op after ≡ place → IfOk result (λ done. FinishedAs codes.now (plain_operation op) (plain_after after) (site.HowEnds kind (site.plain_answer answer)) loc (shown w.old) (Some done) (shown w.new)) }
 {
     let answer = carried(answer);
     if !is_of_object(&answer) {
@@ -85,7 +85,7 @@ fn end(
         return Err(Refused::Beyond);
     }
     give_answer(alloc, codes, w, place, answer)?;
-    Ok(Some(Act { kind, loc }))
+    Ok(Act { kind, loc })
 }
 
 /// The window behind an outcome, and the act that was done, if it doesn't wait.
@@ -95,7 +95,8 @@ pub(crate) fn finish(
     w: &mut Window,
     tried: Tried,
 ) -> Result<Option<Act>, Refused>
-    ensures { (op : Operation) (after : After) → place_of op after ≡ tried.place → IfOk result (λ made. FinishedAs codes.now (plain_operation op) (plain_after after) (site.how tried.outcome) tried.loc (shown w.old) made (shown w.new)) }
+    ensures acted { (op : Operation) (after : After) → place_of op after ≡ tried.place → IfOk result (λ made. FinishedAs codes.now (plain_operation op) (plain_after after) (site.how tried.outcome) tried.loc (shown w.old) made (shown w.new)) }
+    ensures same { IfOk result (λ made. made ≡ None → w.new ≡ w.old) }
 {
     let Tried {
         outcome,
@@ -104,7 +105,10 @@ pub(crate) fn finish(
     } = tried;
     match outcome {
         Outcome::Waits => Ok(None),
-        Outcome::Ends { kind, answer } => end(alloc, codes, w, place, kind, answer, loc),
+        Outcome::Ends { kind, answer } => {
+            let done = end(alloc, codes, w, place, kind, answer, loc)?;
+            Ok(Some(done))
+        }
     }
 }
 
@@ -192,7 +196,8 @@ pub fn act_at_one(
     thread: ThreadId,
     w: &mut Window,
 ) -> Result<Option<Act>, Refused>
-    ensures { IfOk result (λ made. ActsAtOne codes.now thread.0 heap.old (shown w.old) made (plain_heap heap.new) (shown w.new)) }
+    ensures acted { IfOk result (λ made. ActsAtOne codes.now thread.0 heap.old (shown w.old) made (plain_heap heap.new) (shown w.new)) }
+    ensures same { IfOk result (λ made. made ≡ None → w.new ≡ w.old) }
 {
     let tried = try_at(alloc, codes, heap, thread, w)?;
     let made = finish(alloc, codes, w, tried)?;

@@ -3,6 +3,7 @@
 ghost use Rattle.std.specs.Prelude.{◌≡◌, ◌<◌, ◌^◌, IfOk, length};
 ghost use Rattle.obq_host.specs.NewCells.{NamesDifferIn};
 ghost use Rattle.obq_host.specs.OnCells.{ActsOnCells, family_in, family_of, old_cells};
+ghost use Rattle.obq_host.specs.declared.on_cells.CellAct.TheVariants as act;
 ghost use Rattle.obq_moves.specs.Views.{plain_focus, plain_operation, shown};
 ghost use Rattle.obq_site.specs.Cells.{plain_heap};
 
@@ -84,7 +85,8 @@ pub fn act_on_cells(
 ) -> Result<CellAct, Refused>
     requires room { length heap.old.cells < 2 ^ 32 }
     requires names { NamesDifferIn (plain_focus w.old.focus) }
-    ensures { IfOk result (λ done. ActsOnCells codes.now thread.0 heap.old born (shown w.old) (plain_heap heap.new) (shown w.new) done) }
+    ensures acted { IfOk result (λ done. ActsOnCells codes.now thread.0 heap.old born (shown w.old) (plain_heap heap.new) (shown w.new) done) }
+    ensures same { IfOk result (λ done. done ≡ act.Waits → w.new ≡ w.old) }
 {
     match family_in(&w.focus) {
         Family::One => Ok(old_cells(act_at_one(alloc, codes, heap, thread, w)?)),

@@ -1,6 +1,6 @@
 //! Operations that wait, and a watch that takes its object's mutex again.
 
-ghost use Rattle.std.specs.Prelude.{◌≡◌, IfOk, option_copied, option_map};
+ghost use Rattle.std.specs.Prelude.{◌≡◌, IfOk, option_copied, option_map, None};
 ghost use Rattle.obq_heap.specs.Heap.{cell_at};
 ghost use Rattle.obq_heap.specs.Reading.{numbers};
 ghost use Rattle.obq_host.specs.Watching.{ActsAgain, TriedAgain, TriedWatch, is_held, is_kept_out, is_lined, waits_in, waits_now};
@@ -187,7 +187,8 @@ pub fn retake(
     thread: ThreadId,
     w: &mut Window,
 ) -> Result<Option<Act>, Refused>
-    ensures { IfOk result (λ made. ActsAgain codes.now thread.0 heap.old (shown w.old) made (plain_heap heap.new) (shown w.new)) }
+    ensures acted { IfOk result (λ made. ActsAgain codes.now thread.0 heap.old (shown w.old) made (plain_heap heap.new) (shown w.new)) }
+    ensures same { IfOk result (λ made. made ≡ None → w.new ≡ w.old) }
 {
     let tried = try_watch(heap, thread, w)?;
     let made = finish(alloc, codes, w, tried)?;
