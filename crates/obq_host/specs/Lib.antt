@@ -1,1 +1,13 @@
+pub mod Acting
+pub mod Doing
+pub mod Endings
 pub mod Meanings
+pub mod NewCells
+pub mod OnCells
+pub mod Places
+pub mod Running
+pub mod Seen
+pub mod Stops
+pub mod Threads
+pub mod Turns
+pub mod Watching

@@ -1,48 +1,24 @@
 -- What codes, windows and a site mean, under a table of the program's procedures.
-use Rattle.std.specs.Prelude.{List, None, Option, Some, [], false, if◌then◌else◌, length, option_and_then, option_map, slice_get, ℕ, ◌&&◌, ◌<◌, ◌==◌, ◌×◌, ◌≡◌}
+use Rattle.std.specs.Prelude.{List, Some, [], length, slice_get, ℕ, ◌≡◌}
 use Rattle.obq_base.specs.Tree.{BlockTree}
 use Rattle.obq_base.specs.declared.code.CodeNo.{CodeNo}
 use Rattle.obq_base.specs.declared.code.SourceCode.{SourceCode}
 use Rattle.obq_base.specs.declared.places.Ref.{Ref}
-use Rattle.obq_builtin.specs.Reading.{kind_of}
 use Rattle.obq_except.specs.declared.windows.Window.{Window}
-use Rattle.obq_heap.specs.Heap.{Heap, placed_at}
-use Rattle.obq_heap.specs.declared.cells.Placed.{Placed}
-use Rattle.obq_host.specs.declared.host.Ending.{Ending}
-use Rattle.obq_host.specs.declared.host.Ending.TheVariants as e
+use Rattle.obq_host.specs.Endings.{EndingReads, kept_at}
+use Rattle.obq_host.specs.Places.{at_place}
 use Rattle.obq_host.specs.declared.host.Host.{Host}
 use Rattle.obq_model.specs.Occurrences.{unbound}
 use Rattle.obq_model.specs.Procedures.{main_proc}
-use Rattle.obq_model.specs.Step.{Self}
-use Rattle.obq_model.specs.Terms.{Term}
 use Rattle.obq_moves.specs.Store.{store}
-use Rattle.obq_moves.specs.Views.{plain_value, shown}
-use Rattle.obq_answers.specs.Worlds.{SeenAs, seen, seen_cell, seen_value}
-use Rattle.obq_site.specs.Cells.{plain_cell}
+use Rattle.obq_moves.specs.Views.{shown}
+use Rattle.obq_answers.specs.Worlds.{SeenAs}
+use Rattle.obq_host.specs.Seen.{HeapIs}
+use Rattle.obq_site.specs.Cells.{plain_heap}
 use Rattle.obq_stands.specs.World as world
 use Rattle.obq_windows.specs.Agrees.{Agrees}
-use Rattle.obq_windows.specs.Complete.{IsComplete}
-use Rattle.obq_windows.specs.Rows.{CompleteCell}
 use Rattle.obq_windows.specs.Values.{Table}
 use Rattle.obq_world.specs.Meaning.{Meaning}
-
--- a cell as the World has it
-abbrev pub seen_placed : Table Ref → Placed → world.Born
-seen_placed T p = record { born = p.born; cell = seen_cell T (plain_cell p.cell) }
-
--- The cells read back as this heap: under each reference of this machine stands what the heap has under the reference that it is seen as, and under
--- all others nothing.
-pub record HeapIs (T : Table Ref) (cells : Heap) (h : world.Heap) : Type 0 where
-  pub here : (r : Ref) → h (seen r) ≡ option_map (seen_placed T) (placed_at cells r)
-  pub else_none : (r : world.Ref) → ((q : Ref) → (r ≡ seen q) → placed_at cells q ≡ None) → h r ≡ None
-  pub complete : (r : Ref) (p : Placed) → placed_at cells r ≡ Some p → CompleteCell T (plain_cell p.cell)
-  pub site : cells.site.0 ≡ 0
-
--- how a thread ended reads back so
-abbrev pub EndingIs : Table Ref → Option (Option Ending) → Option world.Ending → Type 0
-EndingIs T (Some (Some (e.Returned v))) o = (o ≡ Some (world.ByValue (seen_value T (plain_value v)))) × IsComplete T (plain_value v)
-EndingIs T (Some (Some (e.Failed text))) o = o ≡ Some (world.ByException text)
-EndingIs T place o = o ≡ None
 
 -- the procedure of a source's code
 pub record IsMain (T : Table Ref) (number : CodeNo) (source : ℕ) (tree : BlockTree) : Type 0 where
@@ -53,14 +29,19 @@ pub record IsMain (T : Table Ref) (number : CodeNo) (source : ℕ) (tree : Block
 pub record AreCodes (parts : List SourceCode) (T : Table Ref) (blocks : List BlockTree) (codes : List SourceCode) : Type 0 where
   pub same : codes ≡ parts
   pub agrees : Agrees T (store parts)
-  pub mains : (source : ℕ) (tree : BlockTree) (part : SourceCode) → slice_get blocks source ≡ Some tree → slice_get parts source ≡ Some part → IsMain T part.main source tree
+  pub mains : (source : ℕ) (tree : BlockTree) → slice_get blocks source ≡ Some tree → (part : SourceCode) × (slice_get parts source ≡ Some part) × IsMain T part.main source tree
+
+-- the cells read back as this heap, under a table that agrees with the codes
+pub record CellsRead (parts : List SourceCode) (T : Table Ref) (s : Host) (h : world.Heap) : Type 0 where
+  pub agrees : Agrees T (store parts)
+  pub cells : HeapIs T (plain_heap s.heap) h
 
 abbrev pub meaning_of : List SourceCode → Table Ref → List BlockTree → Meaning (List SourceCode) Window Host
 meaning_of parts T blocks = record {
   are_codes = AreCodes parts T blocks;
   reads = λ w a self t. SeenAs parts T a self (shown w) t;
-  heap = λ s h. HeapIs T s.heap h;
+  heap = λ s h. CellsRead parts T s h;
   size = λ s. length s.heap.cells;
-  windows = λ s t. option_and_then (λ w. w) (slice_get s.windows.items t);
-  ended = λ s v o. EndingIs T (slice_get s.endings.items v) o;
+  windows = λ s t. at_place s.windows.items t;
+  ended = λ s v o. EndingReads T (kept_at s.endings.items v) o;
 }

@@ -1,0 +1,15 @@
+pub mod AsMachine
+pub mod Begun
+pub mod Behind
+pub mod Due
+pub mod Ended
+pub mod Finished
+pub mod Forked
+pub mod Forms
+pub mod Meant
+mod Placing
+mod Refocused
+pub mod Standing
+pub mod Told
+pub mod Tried
+mod Trying
