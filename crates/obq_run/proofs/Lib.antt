@@ -5,3 +5,6 @@ pub mod Refusals
 pub mod Replayed
 pub mod Taken
 pub mod Zipped
+pub mod Coded
+pub mod Pure
+pub mod Ended

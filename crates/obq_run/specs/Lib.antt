@@ -2,3 +2,4 @@ pub mod Ends
 pub mod Held
 pub mod Played
 pub mod Runs
+pub mod Stops

@@ -3,6 +3,7 @@
 #![tactic(auto)]
 
 mod accepted;
+mod alone;
 mod check;
 mod ends;
 mod finish;
@@ -12,6 +13,7 @@ mod reading;
 mod replay;
 mod replaying;
 mod run;
+mod steps;
 mod texts;
 mod top;
 

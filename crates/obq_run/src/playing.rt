@@ -14,7 +14,7 @@ use obq_plain::{PlainRun, TakeRefused};
 use std::alloc::Global;
 
 /// How many pure steps a thread does at most before another has its turn.
-const SLICE: u32 = 1000;
+pub const SLICE: u32 = 1000;
 
 /// What a run came to in which no thread can go on, and the journal that led there.
 #[derive(Drop)]

@@ -12,13 +12,15 @@ ghost use Rattle.obq_run.specs.Played.{RunsOf, output_text};
 ghost use Rattle.obq_run.specs.Runs.{IsRefusalOf, IsRunOf, RefusalCompletes, RunCompletes, TooLongCompletes, journal_part};
 ghost use Rattle.obq_words.specs.Words.{AreInForm, names_of, paths_of};
 
-use crate::accepted::accepted_sources;
+use crate::accepted::{Accepted, accepted_sources};
+use crate::alone::play_program;
 use crate::ends::{Cause, End, status_for};
 use crate::finish::{refuse, write_whole};
-use crate::playing::{Played, play};
+use crate::playing::Played;
 use obq_base::NoMemory;
 use obq_base::limits::SOURCE_LIMIT;
 use obq_ends::status_of;
+use obq_front::Program;
 use obq_io::{Files, Sink};
 use obq_journal::{Journal, write_journal};
 use obq_words::SiteWord;
@@ -43,7 +45,16 @@ fn run_files<F: Files>(
         Ok(accepted) => accepted,
         Err(cause) => return Err(cause),
     };
-    match play(alloc, &accepted.program.blocks, turns) {
+    let Accepted {
+        sources: _,
+        program,
+    } = accepted;
+    let Program {
+        names: _,
+        blocks,
+        codes,
+    } = program;
+    match play_program(alloc, &blocks, codes, turns) {
         Ok(played) => Ok(played),
         Err(_) => Err(Cause::NoMemory),
     }
