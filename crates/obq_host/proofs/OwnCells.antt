@@ -92,7 +92,7 @@ cells_leave : (parts : List SourceCode) (T : Table Ref) (blocks : List BlockTree
 cells_leave parts T blocks g old new t w heap behind is windows endings =
     record { heap = record { agrees = g; cells = is }; windows = windows; ended = λ v o h. subst (λ z. EndingReads T (kept_at z.items v) o) (sym endings) h }
 
-waits_in : (parts : List SourceCode) (T : Table Ref) (blocks : List BlockTree) (s : Host) (h : world.Heap) (t : ℕ) (z : Self world.Ref) (o : Operation world.Ref) → IsIdle h t z o → WaitsIn (meaning_of parts T blocks) s h t z o
+pub waits_in : (parts : List SourceCode) (T : Table Ref) (blocks : List BlockTree) (s : Host) (h : world.Heap) (t : ℕ) (z : Self world.Ref) (o : Operation world.Ref) → IsIdle h t z o → WaitsIn (meaning_of parts T blocks) s h t z o
 waits_in parts T blocks s h t z _ (IdleAtOne op r x at of there row) = AtCellWaits op r x at of there row
 waits_in parts T blocks s h t z _ (IdleAgain o d guard x y at at2 there there2 row) = AgainWaits o d guard x y at at2 there there2 row
 

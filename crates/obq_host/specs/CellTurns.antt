@@ -1,11 +1,13 @@
 -- What a site does for a thread whose act is one on cells, and all of its acts.
-use Rattle.std.specs.Prelude.{List, Some, ℕ, ◌≡◌}
+use Rattle.std.specs.Prelude.{Bool, List, None, Option, Some, false, ℕ, ◌≡◌}
 use Rattle.obq_base.specs.declared.code.SourceCode.{SourceCode}
 use Rattle.obq_except.specs.declared.windows.Window.{Window}
 use Rattle.obq_host.specs.OnCells.{ActsOnCells}
 use Rattle.obq_host.specs.Places.{IsWith, at_place}
 use Rattle.obq_host.specs.Threads.{DueElse, due_at}
 use Rattle.obq_host.specs.Turns.{ActsOnThreads, OfWindow}
+use Rattle.obq_heap.specs.Heap.{Heap}
+use Rattle.obq_host.specs.Watching.{waits_in}
 use Rattle.obq_host.specs.declared.host.Host.{Host}
 use Rattle.obq_host.specs.declared.on_cells.CellAct.{CellAct}
 use Rattle.obq_host.specs.declared.on_cells.CellAct.TheVariants as c
@@ -32,3 +34,11 @@ pub record ActsOnOwnCells (parts : List SourceCode) (old : Host) (t born : ℕ) 
 pub data Acts (parts : List SourceCode) (old : Host) (t born threads : ℕ) (new : Host) : Tried → Type 0 where
   OnThreads : (came : Tried) → ActsOnThreads old t threads new came → Acts parts old t born threads new came
   OnCells : (act : CellAct) → OfWindow old t (λ s. due_at s.focus ≡ DueElse) → ActsOnOwnCells parts old t born act new → Acts parts old t born threads new (tried_of act)
+
+-- an act on cells is known to wait
+abbrev pub waits_of : ℕ → Heap → Option Window → Bool
+waits_of t cells None = false
+waits_of t cells (Some w) = waits_in t (shown w) cells
+
+abbrev pub waits_at_cells : Host → ℕ → Bool
+waits_at_cells s t = waits_of t s.heap (at_place s.windows.items t)
