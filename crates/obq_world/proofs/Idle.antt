@@ -79,15 +79,19 @@ idle m blocks turns w inv stopped =
     waits s t x e = let no = inv.alone.waits s t in absurd (cc (no, e))
 
 -- so it is where no claim is out and each thread without one has stopped
-pub over_told : {C W S : Type 0} (m : Meaning C W S) (blocks : List BlockTree) (turns limit : ℕ) (w : State S) (out : Bool) (entries : ℕ)
-    → WorldStands m blocks turns w → limit ≡ turns → AllIdle m w.site w.slots limit → MatchBool out (Any (λ s. s.claimed ≡ true) w.slots) (NobodyClaims w.slots) → out ≡ false → entries ≡ length w.journal → WasOver blocks turns entries
-over_told m blocks turns limit w true entries inv limit_is rest claims out long = absurd (cc out)
-over_told m blocks turns limit w false entries inv limit_is rest claims out long =
-    let over = idle m blocks turns w inv stopped in
-    (w.journal, over.0, sym long, over.1, over.2)
+pub over_told : {C W S : Type 0} (m : Meaning C W S) (blocks : List BlockTree) (turns limit : ℕ) (w : State S) (out : Bool)
+    → WorldStands m blocks turns w → limit ≡ turns → AllIdle m w.site w.slots limit → MatchBool out (Any (λ s. s.claimed ≡ true) w.slots) (NobodyClaims w.slots) → out ≡ false → EndsOver blocks turns w.journal
+over_told m blocks turns limit w true inv limit_is rest claims out = absurd (cc out)
+over_told m blocks turns limit w false inv limit_is rest claims out = idle m blocks turns w inv stopped
   where
     stopped : AllStopped m w.site w.slots turns
     stopped t slot e =
         let lt : t < length w.slots = get_below w.slots t slot e in
         let free : slot.claimed ≡ false = subst (λ (s : ThreadSlot). s.claimed ≡ false) (get_or_from_slice_get w.slots t slot slot e) (claims t slot lt) in
         subst (λ n. IsStopped m w.site slot n t) limit_is (rest t slot e free)
+
+pub seen_over : {C W S : Type 0} (m : Meaning C W S) (blocks : List BlockTree) (turns limit : ℕ) (w : State S) (out : Bool) (entries : ℕ)
+    → WorldStands m blocks turns w → limit ≡ turns → AllIdle m w.site w.slots limit → MatchBool out (Any (λ s. s.claimed ≡ true) w.slots) (NobodyClaims w.slots) → out ≡ false → entries ≡ length w.journal → WasOver blocks turns entries
+seen_over m blocks turns limit w out entries inv limit_is rest claims none long =
+    let over = over_told m blocks turns limit w out inv limit_is rest claims none in
+    (w.journal, over.0, sym long, over.1, over.2)

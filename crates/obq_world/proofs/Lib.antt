@@ -1,9 +1,10 @@
-mod Plain
 mod Reading
 mod Keeps
 mod May
+mod Begun
 mod Idle
-mod Installs
-mod Commits
+mod Plain
+mod Onward
+mod Taking
 mod Counting
 mod Reported

@@ -1,7 +1,10 @@
 pub mod Meaning
 pub mod Acts
-pub mod Work
 pub mod State
 pub mod Entries
+pub mod Going
 pub mod Calls
+pub mod Work
+pub mod Claims
 pub mod Reports
+pub mod Ends

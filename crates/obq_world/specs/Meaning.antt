@@ -1,5 +1,5 @@
 -- What the codes, windows and sites of a machine mean. A machine is not known here: these are words for what it tells of itself.
-use Rattle.std.specs.Prelude.{List, Option, Some, [], ℕ, slice_get, ◌≤◌, ◌≡◌}
+use Rattle.std.specs.Prelude.{List, Option, Some, [], ℕ, slice_get, ◌≡◌, ◌≤◌}
 use Rattle.obq_base.specs.Tree.{BlockTree}
 use Rattle.obq_model.specs.Terms.{Raised, Value, Term}
 use Rattle.obq_model.specs.Step.{Self, no_self, Operation, Frame, Found, Done, Uncaught, find}
@@ -9,7 +9,7 @@ use Rattle.obq_model.specs.Opening.{block_term}
 use Rattle.obq_stands.specs.World.{Ref, same_ref, Heap, Ending}
 use Rattle.obq_stands.specs.Stands.{after_steps}
 use Rattle.obq_stands.specs.Events.{writer_at}
-use Rattle.obq_world.specs.declared.machine.Ran.{Ran}
+use Rattle.obq_world.specs.declared.lending.Ran.{Ran}
 use Rattle.obq_world.specs.declared.machine.Stop.{Stop}
 use Rattle.obq_world.specs.declared.machine.Stop.TheVariants as stop
 

@@ -75,6 +75,7 @@ pub record WorldStands {C W S : Type 0} (m : Meaning C W S) (blocks : List Block
 abbrev pub WasOver : List BlockTree → ℕ → ℕ → Type 0
 WasOver blocks turns entries = (journal : List Entry) × (c : Config) × (length journal ≡ entries) × (replay blocks turns journal ≡ Some c) × IsOver turns c
 
+-- the journal replays to a configuration that is over
 abbrev pub EndsOver : List BlockTree → ℕ → List Entry → Type 0
 EndsOver blocks turns journal = (c : Config) × (replay blocks turns journal ≡ Some c) × IsOver turns c
 

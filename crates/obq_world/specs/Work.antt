@@ -2,6 +2,9 @@
 use Rattle.std.specs.Prelude.{ℕ, ◌≡◌}
 use Rattle.obq_world.specs.declared.claims.Done.{Done}
 use Rattle.obq_world.specs.declared.claims.Done.TheVariants as done
+use Rattle.obq_world.specs.declared.going.Gone.{Gone}
+use Rattle.obq_world.specs.declared.lending.Ran.{Ran}
+use Rattle.obq_world.specs.Going.{GoesOn}
 use Rattle.obq_world.specs.Meaning.{Meaning, Runs, StopsAs}
 
 pub record ClaimState (W : Type 0) : Type 0 where
@@ -27,3 +30,9 @@ pub record IsCut {W : Type 0} (work : WorkState W) (left : ℕ) (short : WorkSta
   pub thread : short.thread ≡ work.thread
   pub start : short.start ≡ work.start
   pub steps : steps_in short.done ≡ left
+
+-- thread t takes these steps in, with the act that is due behind them
+pub record TakesIn {C W S : Type 0} (m : Meaning C W S) (old : S) (t left cells threads : ℕ) (ran : Ran W) (gone : Gone) (new : S) : Type 0 where
+  pub steps : gone.steps ≡ ran.steps
+  pub stop : gone.stop ≡ ran.stop
+  pub goes : GoesOn m old t left cells threads gone new

@@ -3,7 +3,8 @@
 ghost use Rattle.std.specs.Prelude.{◌≡◌, ◌≤◌, IfOk};
 ghost use Rattle.obq_world.specs.Work.{IsCut, steps_in};
 
-use crate::machine::{Machine, Ran};
+use crate::lending::{Lends, Ran};
+use crate::machine::Machine;
 use crate::naming::Naming;
 use obq_base::{NoMemory, ThreadId};
 use std::alloc::Global;
@@ -56,7 +57,7 @@ impl<J: Naming, M: Machine<J>> Model for Work<J, M> {
     ghost invariant = { λ w. AreDone M.meaning w.start w.done };
 }
 
-impl<J: Naming, M: Machine<J>> Claim<J, M> {
+impl<J: Naming, M: Lends<J>> Claim<J, M> {
     /// The thread.
     pub fn thread(&self) -> ThreadId
         ensures { result.0 ≡ self.now.thread }
@@ -110,7 +111,7 @@ impl<J: Naming, M: Machine<J>> Work<J, M> {
 }
 
 /// The work with so many of its steps. Where there are fewer, or memory is wanting, there is none.
-pub(crate) fn cut<J: Naming, M: Machine<J>>(
+pub(crate) fn cut<J: Naming, M: Lends<J>>(
     alloc: Global,
     codes: &M::Codes,
     work: &Work<J, M>,

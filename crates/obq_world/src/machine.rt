@@ -7,7 +7,7 @@ ghost use Rattle.obq_world.specs.Acts.{Begins, CanAct, IsDue, IsRunOn, TellsEndi
 
 use crate::naming::Naming;
 use obq_base::{Act, NoMemory, ThreadId};
-use std::alloc::Global;
+use std::alloc::{AllocError, Global};
 
 /// Why pure steps stopped.
 #[derive(Clone, Copy, Debug, PartialEq, Eq)]
@@ -18,14 +18,6 @@ pub enum Stop {
     Needs,
     /// A value or a raising stands outside of all frames.
     Bottom,
-}
-
-/// A window behind so many pure steps.
-#[derive(Drop)]
-pub struct Ran<W> {
-    pub window: W,
-    pub steps: u32,
-    pub stop: Stop,
 }
 
 /// What an act made besides.
@@ -50,6 +42,18 @@ pub enum Refused {
     NoMemory,
     /// The act is one that this machine doesn't do.
     Beyond,
+}
+
+impl From<NoMemory> for Refused {
+    fn from(_: NoMemory) -> Refused {
+        Refused::NoMemory
+    }
+}
+
+impl From<AllocError> for Refused {
+    fn from(_: AllocError) -> Refused {
+        Refused::NoMemory
+    }
 }
 
 /// So many pure steps were done, and why they stopped.
@@ -82,12 +86,7 @@ pub trait Machine<J: Naming>: Drop {
         ensures { IfOk result (λ site. Begins meaning J.program site) };
 
     /// Pure steps of a thread until an act or the end stands next, at most so many.
-    fn run(
-        &mut self,
-        codes: &Self::Codes,
-        thread: ThreadId,
-        most: u32,
-    ) -> Result<Slice, NoMemory>
+    fn run(&mut self, codes: &Self::Codes, thread: ThreadId, most: u32) -> Result<Slice, NoMemory>
         requires codes { meaning.are_codes codes.now }
         requires running { IsRunning meaning self.old thread.0 }
         ensures { IfOk result (λ slice. IsRunOn meaning self.old thread.0 most slice self.new) };

@@ -1,15 +1,16 @@
 //! The World of a run: its site, its threads, and the journal of what they did.
 
-ghost use Rattle.std.specs.Prelude.{◌≡◌, ◌<◌, ◌≤◌, ◌+◌, [], IfOk, IsTrue, MatchOption, Some, length, slice_get};
-ghost use Rattle.obq_world.specs.Calls.{CommitCases, PickCases, StandsAt, TakenIn};
+ghost use Rattle.std.specs.Prelude.{◌≡◌, ◌<◌, ◌≤◌, [], IfOk, IsTrue, MatchOption, length};
+ghost use Rattle.obq_world.specs.Calls.{AdvanceCases};
+ghost use Rattle.obq_world.specs.Entries.{TakesMore};
+ghost use Rattle.obq_world.specs.Meaning.{IsRunning};
 ghost use Rattle.obq_world.specs.Reports.{Outputs, Reports};
-ghost use Rattle.obq_world.specs.State.{EndsOver, Replays, used_in};
-ghost use Rattle.obq_world.specs.Work.{steps_in};
+ghost use Rattle.obq_world.specs.State.{EndsOver, Replays};
 
-use crate::claims::{Claim, Done, Work, cut};
-use crate::machine::Machine;
+use crate::going::{go_on, note, turns_taken};
+use crate::machine::{Machine, Refused};
 use crate::naming::Naming;
-use crate::parts::{all_stopped, any_claim, first_able, install, spent};
+use crate::parts::{all_stopped, any_claim, first_able};
 use crate::reports::report_of;
 use crate::slots::ThreadSlot;
 use obq_base::{NoMemory, Report, ThreadId};
@@ -20,13 +21,13 @@ use std::marker::{Model, PhantomData};
 /// The sites of a program, of which there is one, its threads, and the journal that replays to where they stand.
 #[derive(Drop)]
 pub struct World<J: Naming, M: Machine<J>> {
-    alloc: Global,
-    site: M,
-    slots: Vec<ThreadSlot>,
-    cells: u64,
-    codes: M::Codes,
-    journal: Journal,
-    of: PhantomData<J>,
+    pub(crate) alloc: Global,
+    pub(crate) site: M,
+    pub(crate) slots: Vec<ThreadSlot>,
+    pub(crate) cells: u64,
+    pub(crate) codes: M::Codes,
+    pub(crate) journal: Journal,
+    pub(crate) of: PhantomData<J>,
 }
 
 impl<J: Naming, M: Machine<J>> Model for World<J, M> {
@@ -40,46 +41,15 @@ impl<J: Naming, M: Machine<J>> Model for World<J, M> {
     ghost invariant = { λ w. WorldStands M.meaning J.program J.turns (record { site = w.site; slots = w.slots.items; cells = w.cells; journal = w.journal.entries }) × (w.journal.turns ≡ J.turns) × M.meaning.are_codes w.codes × (J.sites ≡ 1) };
 }
 
-/// Tells that `pick` found the run over, at a journal of so many entries.
+/// What became of a World that was to advance.
 #[derive(Drop)]
-pub struct Seen<J: Naming> {
-    entries: u64,
-    of: PhantomData<J>,
-}
-
-impl<J: Naming> Model for Seen<J> {
-    ghost use Rattle.std.specs.Prelude.{ℕ};
-    ghost use Rattle.obq_world.specs.State.{WasOver};
-
-    ghost Value = { ℕ };
-
-    ghost view = { λ s. s.entries };
-
-    ghost invariant = { λ s. WasOver J.program J.turns s.entries };
-}
-
-impl<J: Naming> Seen<J> {
-    /// How many entries the journal had.
-    pub fn entries(&self) -> u64
-        ensures { result ≡ self.now }
-    {
-        self.entries
-    }
-}
-
-/// What a worker does next.
-#[derive(Drop)]
-pub enum Picked<J: Naming, M: Machine<J>> {
-    Go(Claim<J, M>),
-    NothingNow,
-    Over(Seen<J>),
-}
-
-/// Why a work isn't taken in. Nothing changed.
-#[derive(Drop)]
-pub enum CommitRefused<J: Naming, M: Machine<J>> {
-    Stale { version: u64 },
-    NoMemory(Work<J, M>),
+pub enum Advanced<J: Naming, M: Machine<J>> {
+    /// A thread went on.
+    Went(World<J, M>),
+    /// No thread can go.
+    Over(World<J, M>),
+    /// Each thread that can go has a claim out.
+    Claimed(World<J, M>),
 }
 
 impl<J: Naming, M: Machine<J>> World<J, M> {
@@ -96,8 +66,7 @@ impl<J: Naming, M: Machine<J>> World<J, M> {
             version: 0,
             claimed: false,
         })?;
-        let window = M::first_window(alloc, &codes, 0)?;
-        let site = M::begin(alloc, &codes, window)?;
+        let site = M::begin(alloc, &codes)?;
         Ok(World {
             alloc,
             site,
@@ -109,124 +78,65 @@ impl<J: Naming, M: Machine<J>> World<J, M> {
         })
     }
 
-    /// A claim on a thread that can go; or what there is in its place.
-    pub fn pick(&mut self) -> Result<Picked<J, M>, NoMemory>
-        ensures { PickCases M.meaning self.old result self.new }
+    /// The first thread that can go, and on which no claim is out, goes on: at most so many pure steps, with the act that is then due. The journal
+    /// has one entry more, which takes a turn.
+    pub fn advance(self, most: u32) -> Result<Advanced<J, M>, Refused>
+        ensures { IfOk result (λ advanced. AdvanceCases J.program J.turns self.journal advanced) }
     {
         match first_able(&self.site, &self.slots, self.journal.turns()) {
             Some(k) => {
-                let thread = ThreadId(k as u32);
-                let start = self.site.copy_window(thread)?;
-                let window = M::copy(self.alloc, &start)?;
-                let codes = M::share(&self.codes)?;
-                let slot = self.slots[k];
-                self.slots[k] = ThreadSlot {
-                    used: slot.used,
-                    version: slot.version,
-                    claimed: true,
-                };
-                Ok(Picked::Go(Claim {
-                    thread,
-                    start,
-                    window,
-                    codes,
-                    of: PhantomData,
-                }))
+                let world = self.go(ThreadId(k as u32), most)?;
+                Ok(Advanced::Went(world))
             }
             None => {
                 if any_claim(&self.slots) {
-                    Ok(Picked::NothingNow)
+                    Ok(Advanced::Claimed(self))
                 } else {
-                    Ok(Picked::Over(Seen {
-                        entries: self.journal.len(),
-                        of: PhantomData,
-                    }))
+                    Ok(Advanced::Over(self))
                 }
             }
         }
     }
 
-    /// Takes a work in: at most as many of its steps as turns are left, with the act that is then due if it is done.
-    pub fn commit(&mut self, work: Work<J, M>) -> Result<(), CommitRefused<J, M>>
-        ensures { CommitCases M.meaning J.turns self.old work result self.new }
+    /// A thread that is running goes on.
+    fn go(self, thread: ThreadId, most: u32) -> Result<World<J, M>, Refused>
+        requires running { IsRunning M.meaning self.site thread.0 }
+        requires there { thread.0 < length self.slots }
+        ensures { IfOk result (λ w. TakesMore self.journal w.journal) }
     {
-        let k = work.thread.0 as usize;
-        if k >= self.slots.len() {
-            return Err(CommitRefused::Stale { version: 0 });
-        }
-        let slot = self.slots[k];
-        if !self.site.is_at(work.thread, &work.start) {
-            return Err(CommitRefused::Stale {
-                version: slot.version,
-            });
-        }
-        let left = self.journal.turns() - slot.used;
-        if work.steps() <= left {
-            return match self.take_in(work) {
-                Ok(()) => Ok(()),
-                Err(work) => Err(CommitRefused::NoMemory(work)),
-            };
-        }
-        match cut(self.alloc, &self.codes, &work, left) {
-            Ok(short) => match self.take_in(short) {
-                Ok(()) => Ok(()),
-                Err(_) => Err(CommitRefused::NoMemory(work)),
-            },
-            Err(_) => Err(CommitRefused::NoMemory(work)),
-        }
-    }
-
-    /// Takes a work in whose start the thread has, and for whose steps there are turns.
-    fn take_in(&mut self, work: Work<J, M>) -> Result<(), Work<J, M>>
-        requires here { StandsAt M.meaning self.old work }
-        requires there { work.thread < length self.old.slots }
-        requires fits { used_in (slice_get self.old.slots work.thread) + steps_in work.done ≤ J.turns }
-        ensures { TakenIn M.meaning J.turns self.old work result self.new }
-    {
-        let turns = self.journal.turns();
-        let Work {
-            thread,
-            start,
-            done,
+        let World {
+            alloc,
+            mut site,
+            mut slots,
+            cells,
+            codes,
+            mut journal,
             of: _,
-        } = work;
-        match done {
-            Done::NoMemory => {
-                let k = thread.0 as usize;
-                self.slots[k] = spent(self.slots[k], 0);
-                Ok(())
-            }
-            Done::Steps(ran) => {
-                if let Err(ran) = install(
-                    &mut self.site,
-                    &mut self.slots,
-                    &mut self.cells,
-                    &mut self.journal,
-                    turns,
-                    thread,
-                    ran,
-                ) {
-                    return Err(Work {
-                        thread,
-                        start,
-                        done: Done::Steps(ran),
-                        of: PhantomData,
-                    });
-                }
-                Ok(())
-            }
-        }
-    }
-
-    /// The claim on the thread is out no more.
-    pub fn give_back(&mut self, thread: ThreadId)
-        ensures journal { self.new.journal ≡ self.old.journal }
-        ensures site { self.new.site ≡ self.old.site }
-    {
+        } = self;
         let k = thread.0 as usize;
-        if k < self.slots.len() {
-            self.slots[k] = spent(self.slots[k], 0);
+        let left = journal.turns() - slots[k].used;
+        let gone = go_on(
+            &mut site,
+            &codes,
+            thread,
+            most,
+            left,
+            cells,
+            slots.len() as u32,
+        )?;
+        if turns_taken(gone) == 0 {
+            return Err(Refused::Beyond);
         }
+        let cells = note(&mut slots, cells, &mut journal, thread, gone)?;
+        Ok(World {
+            alloc,
+            site,
+            slots,
+            cells,
+            codes,
+            journal,
+            of: PhantomData,
+        })
     }
 
     /// Whether no thread can go and no claim is out.

@@ -1,5 +1,5 @@
 use Rattle.std.proofs.Common.{arith, refl, ◌∙◌}
-use Rattle.obq_world.proofs.Idle.{over_told}
+use Rattle.obq_world.proofs.Idle.{seen_over}
 use Rattle.obq_world.proofs.Keeps.{claims_keep}
 use Rattle.obq_world.proofs.May.{few_threads}
 use Rattle.obq_world.proofs.world.World.pick.Goals as goal
@@ -27,5 +27,5 @@ pub invariant_of-result-else-any_claim : goal.invariant_of-result-else-any_claim
 invariant_of-result-else-any_claim g c =
     let rest = rw c.deref.ensures.value at c.in-None.ensures in
     let out = rw c.deref-in-None.ensures.value at c.any_claim.ensures in
-    over_told g.M.Machine.meaning g.J.Naming.program g.J.Naming.turns c.turns.result (record { site = c.self.inside.site; slots = c.self.inside.slots.items; cells = c.self.inside.cells; journal = c.self.inside.journal.entries }) c.any_claim.result c.len.result
+    seen_over g.M.Machine.meaning g.J.Naming.program g.J.Naming.turns c.turns.result (record { site = c.self.inside.site; slots = c.self.inside.slots.items; cells = c.self.inside.cells; journal = c.self.inside.journal.entries }) c.any_claim.result c.len.result
     c.self.invariant.0 (c.turns.ensures ∙ c.self.invariant.1) rest out c.if-any_claim.false c.len.ensures

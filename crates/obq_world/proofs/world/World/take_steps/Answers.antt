@@ -1,0 +1,53 @@
+use Rattle.std.proofs.Common.{arith, length, ◌≡◌, ◌∙◌}
+use Rattle.obq_world.specs.State.{State}
+use Rattle.obq_world.proofs.May.{few_cells, few_threads}
+use Rattle.obq_world.proofs.Onward.{may_go_there, stands_behind}
+use Rattle.obq_world.proofs.Taking.{left_for, steps_commit}
+use Rattle.obq_world.proofs.world.World.take_steps.Goals as goal
+
+pub overflow_cast-len : goal.overflow_cast-len
+overflow_cast-len g c =
+    let few = few_threads g.M.Machine.meaning g.J.Naming.program g.J.Naming.turns (record { site = c.self.inside.site; slots = c.self.inside.slots.items; cells = c.self.inside.cells; journal = c.self.inside.journal.entries }) c.self.invariant.0 in
+    omega (arith, few)
+
+pub take_window-requires-clause-can : goal.take_window-requires-clause-can
+take_window-requires-clause-can g c =
+    let w : State _ = record { site = c.self.inside.site; slots = c.self.inside.slots.items; cells = c.self.inside.cells; journal = c.self.inside.journal.entries } in
+    let many : c.len.result ≡ length c.self.inside.slots.items = omega arith in
+    may_go_there g.M.Machine.meaning g.J.Naming.program g.J.Naming.turns c.turns.result c.len.result w c.args.thread.0 c.index.result.now c.self.invariant.0 (c.turns.ensures ∙ c.self.invariant.1) many (rw (← c.self.view_is) at c.requires.there) c.index.ensures
+
+pub take_window-requires-clause-room : goal.take_window-requires-clause-room
+take_window-requires-clause-room g c = (c.self.invariant.0.size, few_cells g.M.Machine.meaning g.J.Naming.program g.J.Naming.turns (record { site = c.self.inside.site; slots = c.self.inside.slots.items; cells = c.self.inside.cells; journal = c.self.inside.journal.entries }) c.self.invariant.0)
+
+pub take_window-requires-clause-threads : goal.take_window-requires-clause-threads
+take_window-requires-clause-threads g c =
+    let few = few_threads g.M.Machine.meaning g.J.Naming.program g.J.Naming.turns (record { site = c.self.inside.site; slots = c.self.inside.slots.items; cells = c.self.inside.cells; journal = c.self.inside.journal.entries }) c.self.invariant.0 in
+    omega (arith, few)
+
+pub note-requires-clause-cells : goal.note-requires-clause-cells
+note-requires-clause-cells g c =
+    let few = few_cells g.M.Machine.meaning g.J.Naming.program g.J.Naming.turns (record { site = c.self.inside.site; slots = c.self.inside.slots.items; cells = c.self.inside.cells; journal = c.self.inside.journal.entries }) c.self.invariant.0 in
+    omega (arith, few)
+
+pub invariant_of-result : goal.invariant_of-result
+invariant_of-result g c =
+    let w : State _ = record { site = c.self.inside.site; slots = c.self.inside.slots.items; cells = c.self.inside.cells; journal = c.self.inside.journal.entries } in
+    let many : c.len.result ≡ length c.self.inside.slots.items = omega arith in (
+      stands_behind g.M.Machine.meaning g.J.Naming.program g.J.Naming.turns c.turns.result c.len.result w c.args.thread.0 c.index.result.now c.in_ok-gone.gone c.take_window.new.site c.note.new.slots.items c.note.new.journal.entries c.in_ok-cells.cells
+          c.self.invariant.0 (c.turns.ensures ∙ c.self.invariant.1) many (rw (← c.self.view_is) at c.requires.there) c.index.ensures (rw (← c.self.view_is) at c.requires.running) c.in_ok-gone.ensures.goes c.in_ok-cells.ensures.noted,
+      c.in_ok-cells.ensures.turns ∙ c.self.invariant.1,
+      c.self.invariant.2,
+      c.self.invariant.3,
+    )
+
+pub take_window-requires-clause-few : goal.take_window-requires-clause-few
+take_window-requires-clause-few g c =
+    let w : State _ = record { site = c.self.inside.site; slots = c.self.inside.slots.items; cells = c.self.inside.cells; journal = c.self.inside.journal.entries } in
+    left_for g.M.Machine.meaning g.J.Naming.program g.J.Naming.turns c.turns.result w c.args.thread.0 c.index.result.now c.args.ran.steps c.self.invariant.0 (c.turns.ensures ∙ c.self.invariant.1) (rw (← c.self.view_is) at c.requires.there) c.index.ensures (rw (← c.self.view_is) at c.requires.fits)
+
+pub returns : goal.returns
+returns g c =
+    let w : State _ = record { site = c.self.inside.site; slots = c.self.inside.slots.items; cells = c.self.inside.cells; journal = c.self.inside.journal.entries } in
+    rw (← c.self.view_is)
+    (steps_commit g.M.Machine.meaning g.J.Naming.program g.J.Naming.turns c.turns.result c.len.result w c.args.thread.0 c.index.result.now c.args.ran c.in_ok-gone.gone c.take_window.new.site c.note.new.slots.items c.note.new.journal.entries c.in_ok-cells.cells
+    c.self.invariant.0 (c.turns.ensures ∙ c.self.invariant.1) (rw (← c.self.view_is) at c.requires.there) c.index.ensures c.in_ok-gone.ensures c.in_ok-cells.ensures.noted)
