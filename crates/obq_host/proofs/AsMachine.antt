@@ -1,6 +1,6 @@
 -- The calls of a site in the words of a World.
-use Rattle.std.specs.Prelude.{Bool, IsTrue, List, MatchBool, None, Option, Some, [], is_none, is_some, option_map, refl, slice_get, unwrap_or, length, ℕ, ◌≡◌, ◌≤◌}
-use Rattle.std.proofs.Common.{ap, arith, subst, sym, true≢false, ◌∙◌}
+use Rattle.std.specs.Prelude.{Bool, IsTrue, List, MatchBool, None, Option, Some, [], is_none, is_some, option_map, refl, slice_get, unwrap_or, length, ℕ, ◌≡◌, ◌≤◌, true, false, ◌||◌, ◌+◌, ◌^◌, ◌⊎◌, ◌<◌}
+use Rattle.std.proofs.Common.{ap, arith, subst, sym, true≢false, ◌∙◌, inl, inr}
 use Rattle.obq_base.specs.Tree.{BlockTree}
 use Rattle.obq_base.specs.declared.code.CodeNo.{CodeNo}
 use Rattle.obq_base.specs.declared.code.SourceCode.{SourceCode}
@@ -11,17 +11,22 @@ use Rattle.obq_host.specs.Meanings.{AreCodes, meaning_of}
 use Rattle.obq_host.specs.Places.{at_place}
 use Rattle.obq_host.specs.Running.{OpensSo}
 use Rattle.obq_host.specs.Threads.{DueElse, DueEnd, DueFork, DueJoin, PlainDue, awaited, due_at}
-use Rattle.obq_host.specs.Turns.{ActsOnThreads, ComesOf, IsBegun, IsRunningHere, RunsHere, awaits_at, awaits_in}
+use Rattle.obq_host.specs.Turns.{IsBegun, IsRunningHere, OfWindow, RunsHere, awaits_at, awaits_in}
 use Rattle.obq_host.specs.declared.host.Host.{Host}
 use Rattle.obq_host.proofs.Begun.{begins_with}
 use Rattle.obq_host.proofs.Told.{runs_on, tells_running}
-use Rattle.obq_host.proofs.Tried.{IsDueAt, awaits, tried_on_threads}
+use Rattle.obq_host.proofs.Tried.{IsDueAt, awaits}
+use Rattle.obq_host.proofs.Due.{waits_mean}
+use Rattle.obq_host.proofs.OwnCells.{Readable, acts_tried, names_ready, waits_in}
+use Rattle.obq_host.specs.CellTurns.{Acts, waits_at_cells, waits_of}
+use Rattle.obq_host.specs.NewCells.{NamesDifferIn}
+use Rattle.obq_model.specs.Step.{self_at}
 use Rattle.obq_model.specs.Opening.{block_term}
 use Rattle.obq_model.proofs.NaturalOpening.{natural_opening}
 use Rattle.obq_moves.specs.Views.{shown}
 use Rattle.obq_stands.specs.Events.{writer_at}
 use Rattle.obq_windows.specs.Values.{Table}
-use Rattle.obq_world.specs.Acts.{Begins, IsRunOn, TriedCases, WaitsHere}
+use Rattle.obq_world.specs.Acts.{Begins, CanAct, IsRunOn, TriedCases, WaitsHere}
 use Rattle.obq_world.specs.Meaning.{IsRunning}
 use Rattle.obq_world.specs.declared.machine.Slice.{Slice}
 use Rattle.obq_world.specs.declared.machine.Tried.{Tried}
@@ -55,10 +60,23 @@ pub told_running : (parts : List SourceCode) (T : Table Ref) (blocks : List Bloc
 told_running parts T blocks now own view t b e =
     subst (λ (z : Host). MatchBool b (IsRunning (meaning_of parts T blocks) z t) (IsRunning (meaning_of parts T blocks) z t → ⊥)) (sym view) (tells_running parts T blocks own t b e)
 
-pub acted : (parts : List SourceCode) (T : Table Ref) (blocks : List BlockTree) (now own new : Host) → now ≡ own → (t cells threads : ℕ) → IsRunningHere now t → IsDueAt parts T blocks now t → length now.heap.cells ≤ cells → (came : Option Tried) (tried : Tried) → ComesOf own t threads came new → came ≡ Some tried
+readable_by : (parts : List SourceCode) (T : Table Ref) (blocks : List BlockTree) (threads : ℕ) (s : Host) (t : ℕ) (w : Window) → CanAct (meaning_of parts T blocks) blocks threads s t w → Readable parts T s w
+readable_by parts T blocks threads s t w can = record { here = can.here; depth = can.depth; self = can.self; term = can.term; heap = can.heap; reads = can.reads }
+
+pub acted : (parts : List SourceCode) (T : Table Ref) (blocks : List BlockTree) (codes : List SourceCode) → AreCodes parts T blocks codes → (now own new : Host) → now ≡ own → (t cells threads : ℕ) → IsRunningHere now t → IsDueAt parts T blocks now t
+    → ((w : Window) → at_place now.windows.items t ≡ Some w → CanAct (meaning_of parts T blocks) blocks threads now t w) → length now.heap.cells ≤ cells → (tried : Tried) → Acts codes own t cells threads new tried
     → TriedCases (meaning_of parts T blocks) now t cells threads tried new
-acted parts T blocks now own new view t cells threads running due size came tried h e =
-    tried_on_threads parts T blocks now new t cells threads running due size tried (subst (λ (z : Host). ActsOnThreads z t threads new tried) (sym view) (subst (λ (z : Option Tried). ComesOf own t threads z new) e h))
+acted parts T blocks codes are now own new view t cells threads running due can size tried h =
+    acts_tried parts T blocks now new t cells threads running due (readable_by parts T blocks threads now t running.0 (can running.0 running.1)) size tried
+    (subst (λ (z : List SourceCode). Acts z now t cells threads new tried) are.same (subst (λ (z : Host). Acts codes z t cells threads new tried) (sym view) h))
+
+pub ready : (parts : List SourceCode) (T : Table Ref) (blocks : List BlockTree) (now own : Host) → now ≡ own → (t threads : ℕ) → IsDueAt parts T blocks now t → ((w : Window) → at_place now.windows.items t ≡ Some w → CanAct (meaning_of parts T blocks) blocks threads now t w)
+    → OfWindow own t (λ z. NamesDifferIn z.focus)
+ready parts T blocks now own view t threads due can =
+    subst (λ (z : Host). OfWindow z t (λ y. NamesDifferIn y.focus)) view (names_ready parts T blocks now t due (λ w here. readable_by parts T blocks threads now t w (can w here)))
+
+pub has_room : (now own : Host) → now ≡ own → (cells : ℕ) → length now.heap.cells ≤ cells → cells + 1 < 2 ^ 32 → length own.heap.cells < 2 ^ 32
+has_room now own view cells few room = subst (λ (z : Host). length z.heap.cells < 2 ^ 32) view (omega arith)
 
 -- ---- threads that wait for others
 
@@ -83,7 +101,23 @@ waits_own parts T blocks s t b e running h =
     let joins = joins_in (kept_at s.endings.items) (due_at (shown running.0).focus) at in
     awaits parts T blocks s t joins.0 (λ w here. subst (λ (z : Window). due_at (shown z).focus ≡ DueJoin joins.0) (same_shown (at_place s.windows.items t) running.0 w running.1 here) joins.1) joins.2
 
-pub waits : (parts : List SourceCode) (T : Table Ref) (blocks : List BlockTree) (now own : Host) → now ≡ own → (t : ℕ) (b : Bool) → b ≡ awaits_at (kept_at own.endings.items) (option_map shown (at_place own.windows.items t)) → IsRunningHere now t → IsTrue b
+waits_cells : (parts : List SourceCode) (T : Table Ref) (blocks : List BlockTree) (s : Host) (t : ℕ) → IsRunningHere s t → waits_at_cells s t ≡ true → WaitsHere (meaning_of parts T blocks) s t
+waits_cells parts T blocks s t running e h w a self u is here k =
+    let z = waits_mean parts T is.agrees t s.heap (shown w) (sym (ap (waits_of t s.heap) here) ∙ e) h is.cells a self u k in
+    (z.0, z.1, z.2, waits_in parts T blocks s h t (self_at self z.1) z.0 z.3)
+
+either : (a b : Bool) → (a || b) ≡ true → (a ≡ true) ⊎ (b ≡ true)
+either true b e = inl refl
+either false b e = inr e
+
+pub waits : (parts : List SourceCode) (T : Table Ref) (blocks : List BlockTree) (now own : Host) → now ≡ own → (t : ℕ) (b : Bool) → b ≡ (awaits_at (kept_at own.endings.items) (option_map shown (at_place own.windows.items t)) || waits_at_cells own t) → IsRunningHere now t → IsTrue b
     → WaitsHere (meaning_of parts T blocks) now t
 waits parts T blocks now own view t b e running h =
-    subst (λ (z : Host). WaitsHere (meaning_of parts T blocks) z t) (sym view) (waits_own parts T blocks own t b e (subst (λ (z : Host). IsRunningHere z t) view running) h)
+    subst (λ (z : Host). WaitsHere (meaning_of parts T blocks) z t) (sym view) (by (either (awaits_at (kept_at own.endings.items) (option_map shown (at_place own.windows.items t))) (waits_at_cells own t) (sym e ∙ h)))
+  where
+    there : IsRunningHere own t
+    there = subst (λ (z : Host). IsRunningHere z t) view running
+
+    by : (awaits_at (kept_at own.endings.items) (option_map shown (at_place own.windows.items t)) ≡ true) ⊎ (waits_at_cells own t ≡ true) → WaitsHere (meaning_of parts T blocks) own t
+    by (inl x) = waits_own parts T blocks own t true (sym x) there refl
+    by (inr x) = waits_cells parts T blocks own t there x

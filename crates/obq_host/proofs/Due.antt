@@ -158,6 +158,8 @@ stays parts t cells w (PlainSetValue object x v) after e h = let k : IsHeldAt w.
 stays parts t cells w (PlainSetMethod object x m) after e h = let k : IsHeldAt w.current object cells = is_held_at w.current object cells h in at_one parts t cells w (PlainSetMethod object x m) after object e refl k (k.waits _)
 stays parts t cells w (PlainSetAlias object x q y) after e h = let k : IsHeldAt w.current object cells = is_held_at w.current object cells h in at_one parts t cells w (PlainSetAlias object x q y) after object e refl k (k.waits _)
 stays parts t cells w (PlainRedirect object target) after e h = let k : IsHeldAt w.current object cells = is_held_at w.current object cells h in at_one parts t cells w (PlainRedirect object target) after object e refl k (k.waits _)
+stays parts t cells w (PlainCloning first copied (object ∷ rest)) after e h = let k : IsHeldAt w.current object cells = is_held_at w.current object cells h in at_one parts t cells w (PlainCloning first copied (object ∷ rest)) after object e refl k (k.waits _)
+stays parts t cells w (PlainCloning first copied []) after e h = absurd (cc h)
 stays parts t cells w (PlainAgain object condition) after e h = at_again parts t cells w object condition after e h
 stays parts t cells w op after e h = absurd (cc h)
 
@@ -173,6 +175,10 @@ no_end T t cells s a (PlainSetValue object x v) h c = refl
 no_end T t cells s a (PlainSetMethod object x m) h c = c.1
 no_end T t cells s a (PlainSetAlias object x q y) h c = refl
 no_end T t cells s a (PlainRedirect object target) h c = refl
+no_end T t cells s a (PlainCloning None copied (object ∷ rest)) h c = refl
+no_end T t cells s a (PlainCloning (Some flags) copied (object ∷ rest)) h c = refl
+no_end T t cells s a (PlainCloning None copied []) h c = absurd (cc h)
+no_end T t cells s a (PlainCloning (Some flags) copied []) h c = absurd (cc h)
 no_end T t cells s a (PlainAgain object condition) h c = refl
 no_end T t cells s a op h c = absurd (cc h)
 

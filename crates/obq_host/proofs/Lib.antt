@@ -7,6 +7,7 @@ pub mod Finished
 pub mod Forked
 pub mod Forms
 pub mod Meant
+pub mod OwnCells
 mod Placing
 mod Refocused
 pub mod Standing

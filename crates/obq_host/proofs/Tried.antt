@@ -43,7 +43,7 @@ bottom_no_next : (found : Found world.Ref) → IsBottom found → is_next found 
 bottom_no_next _ (ByValue v) = refl
 bottom_no_next _ (ByRaising r) = refl
 
-no_step : (found : Found world.Ref) → NeedsAct found ⊎ IsBottom found → NoStep found
+pub no_step : (found : Found world.Ref) → NeedsAct found ⊎ IsBottom found → NoStep found
 no_step found (inl h) u e = absurd (true≢false (ap is_next (sym e ∙ h.2)))
 no_step found (inr h) u e = absurd (true≢false (sym (ap is_next e) ∙ bottom_no_next found h))
 

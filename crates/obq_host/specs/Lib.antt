@@ -1,4 +1,5 @@
 pub mod Acting
+pub mod CellTurns
 pub mod Doing
 pub mod Endings
 pub mod Meanings

@@ -1,5 +1,5 @@
 -- Operations that wait, and a watch that takes its object's mutex again.
-use Rattle.std.specs.Prelude.{Bool, List, Option, Some, false, not, ℕ, ◌||◌, ◌≡◌, ◌&&◌}
+use Rattle.std.specs.Prelude.{Bool, List, Option, Some, false, not, ℕ, ◌||◌, ◌≡◌, ◌&&◌, ◌∷◌}
 use Rattle.obq_base.specs.declared.acts.Act.{Act}
 use Rattle.obq_base.specs.declared.code.SourceCode.{SourceCode}
 use Rattle.obq_base.specs.declared.places.Ref.{Ref}
@@ -23,7 +23,7 @@ use Rattle.obq_answers.specs.Answers.{place_of}
 use Rattle.obq_site.specs.Cells.{PlainHeap, plain_cell}
 use Rattle.obq_site.specs.Outcomes.{acted, at_cell}
 use Rattle.obq_windows.specs.Rows.{PlainCell, PlainCondition, again_plain, is_plain_free}
-use Rattle.obq_windows.specs.Trees.{PlainAgain, PlainGet, PlainInvoke, PlainOperation, PlainRedirect, PlainSetAlias, PlainSetMethod, PlainSetValue}
+use Rattle.obq_windows.specs.Trees.{PlainAgain, PlainGet, PlainInvoke, PlainOperation, PlainRedirect, PlainSetAlias, PlainSetMethod, PlainSetValue, PlainCloning}
 use Rattle.obq_windows.specs.Windows.{NodeAct, NodeAfter, NodeFocus}
 
 -- ---- operations that wait
@@ -51,6 +51,7 @@ waits_now t s a (PlainSetValue object x v) h = is_held s object (cell_at h objec
 waits_now t s a (PlainSetMethod object x m) h = is_held s object (cell_at h object)
 waits_now t s a (PlainSetAlias object x q y) h = is_held s object (cell_at h object)
 waits_now t s a (PlainRedirect object target) h = is_held s object (cell_at h object)
+waits_now t s a (PlainCloning first copied (object ∷ rest)) h = is_held s object (cell_at h object)
 waits_now t s a (PlainAgain object condition) h = is_kept_out t (cell_at h object) (cell_at h condition)
 waits_now t s a op h = false
 

@@ -2,6 +2,7 @@
 #![tactic(auto)]
 
 mod acting;
+mod cell_turns;
 mod endings;
 mod host;
 mod new_cells;

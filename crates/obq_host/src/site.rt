@@ -66,7 +66,7 @@ impl<J: Naming, P: PureSteps> Machine<J> for Site<P> {
     }
 
     fn waits(&self, thread: ThreadId) -> bool {
-        self.host.awaits(thread)
+        self.host.waits(thread)
     }
 
     fn act(
@@ -76,10 +76,7 @@ impl<J: Naming, P: PureSteps> Machine<J> for Site<P> {
         cells: u64,
         threads: u32,
     ) -> Result<Tried, Refused> {
-        let Some(tried) = self.host.act_on_threads(thread, threads)? else {
-            return Err(Refused::Beyond);
-        };
-        Ok(tried)
+        self.host.act(codes, thread, cells, threads)
     }
 
     fn ending(&self, thread: ThreadId) -> Option<HowEnded> {

@@ -119,6 +119,10 @@ fn waits_now(
         Operation::SetMethod { object, .. } => is_held_at(heap, current, *object),
         Operation::SetAlias { object, .. } => is_held_at(heap, current, *object),
         Operation::Redirect { object, .. } => is_held_at(heap, current, *object),
+        Operation::Cloning { rest, .. } => match rest.as_slice().first() {
+            Some(object) => is_held_at(heap, current, *object),
+            None => false,
+        },
         Operation::Again { object, condition } => is_kept_out(heap, thread, *object, *condition),
         _ => false,
     }
