@@ -191,6 +191,7 @@ impl<J: Naming, M: Lends<J>> World<J, M> {
             cells,
             codes,
             mut journal,
+            next,
             of: _,
         } = self;
         let k = thread.0 as usize;
@@ -212,6 +213,7 @@ impl<J: Naming, M: Lends<J>> World<J, M> {
             cells,
             codes,
             journal,
+            next,
             of: PhantomData,
         })
     }

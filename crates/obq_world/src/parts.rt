@@ -112,3 +112,21 @@ pub(crate) fn first_able<J: Naming, M: Machine<J>>(
     }
     None
 }
+
+/// The first thread from this one on that can go and on which no claim is out, or else the first of all.
+pub(crate) fn next_able<J: Naming, M: Machine<J>>(
+    site: &M,
+    slots: &[ThreadSlot],
+    turns: u32,
+    from: usize,
+) -> Option<usize>
+    requires { length slots.now ≤ 64 }
+    ensures { MatchOption result (AllIdle M.meaning site.now slots.now turns) (λ k. (k < length slots.now) × IsRunning M.meaning site.now k) }
+{
+    for t in from..slots.len() {
+        if !slots[t].claimed && !is_stopped(site, slots[t], turns, ThreadId(t as u32)) {
+            return Some(t);
+        }
+    }
+    first_able(site, slots, turns)
+}

@@ -10,7 +10,7 @@ ghost use Rattle.obq_world.specs.State.{EndsOver, Replays};
 use crate::going::{go_on, note, turns_taken};
 use crate::machine::{Machine, Refused};
 use crate::naming::Naming;
-use crate::parts::{all_stopped, any_claim, first_able};
+use crate::parts::{all_stopped, any_claim, next_able};
 use crate::reports::report_of;
 use crate::slots::ThreadSlot;
 use obq_base::{NoMemory, Report, ThreadId};
@@ -27,6 +27,8 @@ pub struct World<J: Naming, M: Machine<J>> {
     pub(crate) cells: u64,
     pub(crate) codes: M::Codes,
     pub(crate) journal: Journal,
+    /// The thread from which on `advance` looks for one that can go.
+    pub(crate) next: u32,
     pub(crate) of: PhantomData<J>,
 }
 
@@ -74,16 +76,18 @@ impl<J: Naming, M: Machine<J>> World<J, M> {
             cells: 1,
             codes,
             journal: Journal::new(alloc, turns),
+            next: 0,
             of: PhantomData,
         })
     }
 
-    /// The first thread that can go, and on which no claim is out, goes on: at most so many pure steps, with the act that is then due. The journal
+    /// A thread that can go, and on which no claim is out, goes on, in the order of their numbers: at most so many pure steps, with the act that is then due. The journal
     /// has one entry more, which takes a turn.
     pub fn advance(self, most: u32) -> Result<Advanced<J, M>, Refused>
         ensures { IfOk result (λ advanced. AdvanceCases J.program J.turns self.journal advanced) }
     {
-        match first_able(&self.site, &self.slots, self.journal.turns()) {
+        let from = self.next as usize;
+        match next_able(&self.site, &self.slots, self.journal.turns(), from) {
             Some(k) => {
                 let world = self.go(ThreadId(k as u32), most)?;
                 Ok(Advanced::Went(world))
@@ -111,6 +115,7 @@ impl<J: Naming, M: Machine<J>> World<J, M> {
             cells,
             codes,
             mut journal,
+            next: _,
             of: _,
         } = self;
         let k = thread.0 as usize;
@@ -135,6 +140,7 @@ impl<J: Naming, M: Machine<J>> World<J, M> {
             cells,
             codes,
             journal,
+            next: thread.0.saturating_add(1),
             of: PhantomData,
         })
     }
@@ -177,6 +183,7 @@ impl<J: Naming, M: Machine<J>> World<J, M> {
             cells: _,
             codes: _,
             journal,
+            next: _,
             of: _,
         } = self;
         journal

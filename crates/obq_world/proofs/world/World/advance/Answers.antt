@@ -4,8 +4,8 @@ use Rattle.obq_world.proofs.Idle.{over_told}
 use Rattle.obq_world.proofs.May.{few_threads}
 use Rattle.obq_world.proofs.world.World.advance.Goals as goal
 
-pub first_able-requires : goal.first_able-requires
-first_able-requires g c = rw c.deref.ensures.value (few_threads g.M.Machine.meaning g.J.Naming.program g.J.Naming.turns (record { site = c.self.inside.site; slots = c.self.inside.slots.items; cells = c.self.inside.cells; journal = c.self.inside.journal.entries }) c.self.invariant.0)
+pub next_able-requires : goal.next_able-requires
+next_able-requires g c = rw c.deref.ensures.value (few_threads g.M.Machine.meaning g.J.Naming.program g.J.Naming.turns (record { site = c.self.inside.site; slots = c.self.inside.slots.items; cells = c.self.inside.cells; journal = c.self.inside.journal.entries }) c.self.invariant.0)
 
 pub overflow_cast-k : goal.overflow_cast-k
 overflow_cast-k g c =
