@@ -33,7 +33,7 @@ tables_from first (block ∷ blocks) = tabled.table_of first (block_tree block) 
 abbrev pub table_for : List Block → Table Ref
 table_for blocks = table_of (proc_at (tables_from 0 blocks)) writer_of
 
-resolved : (first : ℕ) (blocks : List Block) (parts : List SourceCode) → AreTabled first blocks parts → AreResolved first blocks parts
+abbrev resolved : (first : ℕ) (blocks : List Block) (parts : List SourceCode) → AreTabled first blocks parts → AreResolved first blocks parts
 resolved first [] [] h = tt
 resolved first (block ∷ blocks) (part ∷ parts) h = (h.0.0, resolved (suc first) blocks parts h.1)
 resolved first [] (part ∷ parts) h = absurd h
