@@ -41,12 +41,27 @@ for source in examples/*.obq; do
     example "$(basename "$source" .obq)" "A=$source"
 done
 for site_folder in examples/*/; do
+    [ "$site_folder" != examples/guide/ ] || continue
     set --
     for source in "$site_folder"*.obq; do
         [ -e "$source" ] || continue
         set -- "$@" "$(basename "$source" .obq)=$source"
     done
     [ $# -eq 0 ] || example "$(basename "$site_folder")" "$@"
+done
+
+# the programs of the guide: a run prints what stands beside it, and a replay of its journal, too, with the same status
+for source in examples/guide/*.obq; do
+    echo "$(basename "$source" .obq)"
+    "$obliq" run "A=$source" > "$folder/out"
+    ran=$?
+    "$obliq" run --journal "A=$source" | sed '1,/^== journal ==$/d' > "$folder/journal"
+    "$obliq" replay --from "$folder/journal" "A=$source" > "$folder/again"
+    again=$?
+    if [ "$again" -ne "$ran" ] || ! cmp -s "$folder/out" "${source%.obq}.out" || ! cmp -s "$folder/again" "$folder/out"; then
+        echo "$source: a run or a replay of it prints something else, or ends with another status"
+        status=1
+    fi
 done
 
 # ends STATUS LINE WORDS..: what a call with these words ends with, and tells
