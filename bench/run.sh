@@ -61,9 +61,9 @@ while read -r shape short long; do
         printf "%-8s %d turns: %d ms, %.2f million a second; %d turns: %d ms, %.2f million a second; a turn costs %.2f times as much\n", shape, at, a, at / a / 1e3, bt, b, bt / b / 1e3, (b / bt) / (a / at)
     }'
 done <<'END'
-method 6000 60000
-array 7000 70000
-token 3000 30000
+method 16000 160000
+array 16000 160000
+token 4500 45000
 threads 500 5000
 END
 
@@ -76,10 +76,10 @@ for tool in lua5.4 python3; do
     elsewhere=$tool
     for shape in method array; do
         case $tool-$shape in
-        lua5.4-method) echo 'local o = {n = 0}; function o.add(self, k) self.n = self.n + k end; for i = 1, 60000 do o:add(i) end; print(o.n)' ;;
-        lua5.4-array) echo 'local a = {}; for i = 0, 9 do a[i] = 0 end; for i = 1, 70000 do a[i % 10] = a[i % 10] + i end; print(a[0])' ;;
-        python3-method) printf 'class O:\n    n = 0\n    def add(self, k): self.n += k\no = O()\nfor i in range(1, 60001): o.add(i)\nprint(o.n)\n' ;;
-        python3-array) printf 'a = [0] * 10\nfor i in range(1, 70001): a[i %% 10] += i\nprint(a[0])\n' ;;
+        lua5.4-method) echo 'local o = {n = 0}; function o.add(self, k) self.n = self.n + k end; for i = 1, 160000 do o:add(i) end; print(o.n)' ;;
+        lua5.4-array) echo 'local a = {}; for i = 0, 9 do a[i] = 0 end; for i = 1, 160000 do a[i % 10] = a[i % 10] + i end; print(a[0])' ;;
+        python3-method) printf 'class O:\n    n = 0\n    def add(self, k): self.n += k\no = O()\nfor i in range(1, 160001): o.add(i)\nprint(o.n)\n' ;;
+        python3-array) printf 'a = [0] * 10\nfor i in range(1, 160001): a[i %% 10] += i\nprint(a[0])\n' ;;
         esac > "$folder/loop"
         echo "$tool, $shape, as many rounds as the longer run: $(user_time run_elsewhere) ms"
     done
