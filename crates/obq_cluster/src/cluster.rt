@@ -96,7 +96,6 @@ pub fn run_workers<J, M, R, G>(
 where
     J: Naming + Send + Sync,
     M: Machine<J> + Send,
-    M::Codes: Send,
     R: Threads + Wait + Sync,
     G: Gate,
     ensures { IfOk result (λ seen. vec_len seen ≡ workers) }
@@ -122,7 +121,9 @@ fn all_seen<J: Naming>(
     let mut ends = ends;
     let mut all = Vec::new(alloc);
     while let Some(end) = ends.pop() {
-        all.push(end?)?;
+        if all.push(end?).is_err() {
+            return Err(Refused::NoMemory);
+        }
     }
     all.reverse();
     Ok(all)

@@ -32,7 +32,6 @@ pub fn run_together<J, M, R, G>(
 where
     J: Naming + Send + Sync,
     M: Machine<J> + Send,
-    M::Codes: Send,
     R: Threads + Wait + Sync,
     G: Gate,
     requires codes { M.meaning.are_codes codes }
