@@ -1,53 +1,89 @@
-//! One World under one lock, and the workers that take turns with it.
+//! A run under one lock, and the workers that take turns with it.
 
 ghost use Rattle.std.specs.Prelude.{◌≡◌, ◌<◌, ◌^◌, IfOk, vec_len};
 
-use crate::held::{Held, Step};
 use obq_io::{Gate, GateAt};
-use obq_world::{Machine, Naming, Refused, Seen, World};
+use obq_world::{Naming, Refused, Seen};
 use std::alloc::Global;
+use std::marker::PhantomData;
 use std::sync::{Condvar, Mutex, Wait};
 use std::thread;
 use std::thread::Threads;
 
-/// One World under one lock, or why there is none any more. The lock's type keeps which program, how many sites and which limit of turns the
-/// World is about, and that its journal replays to what it stands for.
+/// How often threads go on at most before the lock is given to another worker.
+const BATCH: u32 = 64;
+
+/// What became of a run that was to go on.
 #[derive(Drop)]
-pub struct Cluster<J: Naming, M: Machine<J>> {
-    held: Mutex<Held<J, M>>,
+pub enum Step<J: Naming> {
+    /// A thread went on.
+    Went,
+    /// No thread can go.
+    Over(Seen<J>),
+    /// Each thread that can go has a claim out.
+    Claimed,
+    /// The run has ended for this.
+    Refused(Refused),
+}
+
+/// A run whose threads go on one step after the other.
+pub trait Steps<J: Naming>: Drop + Send {
+    /// A thread goes on by at most so many pure steps and an act, if one can.
+    fn step(&mut self, most: u32) -> Step<J>;
+}
+
+/// A run under one lock. The lock's type keeps which program, how many sites and which limit of turns it is about, and that its journal replays
+/// to where it stands.
+#[derive(Drop)]
+pub struct Cluster<J: Naming, W: Steps<J>> {
+    held: Mutex<W>,
     changed: Condvar,
     /// How many pure steps a thread does at most before another has its turn.
     most: u32,
+    of: PhantomData<J>,
 }
 
 /// How a turn of a worker ended.
 #[derive(Drop)]
 pub enum Turn<J: Naming> {
     Went,
-    /// The World was over under the lock.
+    /// The run was over under the lock.
     Over(Seen<J>),
-    /// There is no World any more.
+    /// The run has ended for this.
     Refused(Refused),
 }
 
-impl<J: Naming, M: Machine<J>> Cluster<J, M> {
-    /// Puts a World under a lock. A thread will do at most so many pure steps before another has its turn.
-    pub fn new(world: World<J, M>, most: u32) -> Cluster<J, M> {
+/// Threads go on until none can, or as often as one worker may have the lock for.
+fn go<J: Naming, W: Steps<J>>(held: &mut W, most: u32) -> Step<J> {
+    for _ in 0..BATCH {
+        match held.step(most) {
+            Step::Went => {}
+            step => return step,
+        }
+    }
+    Step::Went
+}
+
+impl<J: Naming, W: Steps<J>> Cluster<J, W> {
+    /// Puts a run under a lock. A thread will do at most so many pure steps before another has its turn.
+    pub fn new(held: W, most: u32) -> Cluster<J, W> {
         Cluster {
-            held: Mutex::new(Held::new(world)),
+            held: Mutex::new(held),
             changed: Condvar::new(),
             most,
+            of: PhantomData,
         }
     }
 
-    /// The World, or why there is none.
-    pub fn into_world(self) -> Result<World<J, M>, Refused> {
+    /// What lies under the lock.
+    pub fn into_inner(self) -> W {
         let Cluster {
             held,
             changed: _,
             most: _,
+            of: _,
         } = self;
-        held.into_inner().into_world()
+        held.into_inner()
     }
 
     /// A turn of a worker: it takes the lock, and threads go on under it. Where each thread that can go has a claim out it waits until something
@@ -56,7 +92,7 @@ impl<J: Naming, M: Machine<J>> Cluster<J, M> {
         gate.pass(worker, GateAt::Before);
         let mut held = self.held.lock(rt);
         for _ in rt.forever() {
-            match held.go(self.most) {
+            match go(&mut *held, self.most) {
                 Step::Went => {
                     self.changed.notify_all();
                     return Turn::Went;
@@ -72,7 +108,7 @@ impl<J: Naming, M: Machine<J>> Cluster<J, M> {
         unreachable!()
     }
 
-    /// Turns of a worker until the run is over or there is no World any more.
+    /// Turns of a worker until the run is over or has ended for something else.
     fn turns<R: Wait, G: Gate>(&self, rt: &R, worker: u32, gate: &G) -> Result<Seen<J>, Refused> {
         for _ in rt.forever() {
             match self.turn(rt, worker, gate) {
@@ -86,16 +122,16 @@ impl<J: Naming, M: Machine<J>> Cluster<J, M> {
 }
 
 /// Runs so many workers until each has seen that the run is over, and answers what they saw in the order of their numbers.
-pub fn run_workers<J, M, R, G>(
+pub fn run_workers<J, W, R, G>(
     rt: &R,
     alloc: Global,
-    cluster: &Cluster<J, M>,
+    cluster: &Cluster<J, W>,
     workers: u32,
     gate: &G,
 ) -> Result<Vec<Seen<J>>, Refused>
 where
     J: Naming + Send + Sync,
-    M: Machine<J> + Send,
+    W: Steps<J>,
     R: Threads + Wait + Sync,
     G: Gate,
     ensures { IfOk result (λ seen. vec_len seen ≡ workers) }

@@ -1,41 +1,39 @@
-//! What lies under the lock.
+//! A World that lies under a lock.
 
-use obq_world::{Advanced, Machine, Naming, Refused, Seen, World};
+use crate::cluster::{Step, Steps};
+use obq_world::{Advanced, Machine, Naming, Refused, World};
 
-/// How often a World goes on at most before the lock is given to another worker.
-const BATCH: u32 = 64;
-
-/// The World, or why there is none any more.
+/// A World, or why there is none any more.
 #[derive(Drop)]
-pub(crate) struct Held<J: Naming, M: Machine<J>> {
+pub struct Held<J: Naming, M: Machine<J>> {
     world: Option<World<J, M>>,
     /// Says something only where there is no World.
     why: Refused,
 }
 
-/// What became of the World.
-#[derive(Drop)]
-pub(crate) enum Step<J: Naming> {
-    /// A thread went on.
-    Went,
-    /// No thread can go.
-    Over(Seen<J>),
-    /// Each thread that can go has a claim out.
-    Claimed,
-    /// There is no World any more.
-    Refused(Refused),
-}
-
 impl<J: Naming, M: Machine<J>> Held<J, M> {
     /// Holds this World.
-    pub(crate) fn new(world: World<J, M>) -> Held<J, M> {
+    pub fn new(world: World<J, M>) -> Held<J, M> {
         Held {
             world: Some(world),
             why: Refused::NoMemory,
         }
     }
 
-    /// A thread goes on, if one can.
+    /// The World, or why there is none.
+    pub fn into_world(self) -> Result<World<J, M>, Refused> {
+        let Held { world, why } = self;
+        match world {
+            Some(world) => Ok(world),
+            None => Err(why),
+        }
+    }
+}
+
+impl<J: Naming + Send, M: Machine<J> + Send> Steps<J> for Held<J, M>
+where
+    M::Codes: Send,
+{
     fn step(&mut self, most: u32) -> Step<J> {
         let Some(world) = self.world.take() else {
             return Step::Refused(self.why);
@@ -57,26 +55,6 @@ impl<J: Naming, M: Machine<J>> Held<J, M> {
                 self.why = why;
                 Step::Refused(why)
             }
-        }
-    }
-
-    /// Threads go on until none can, or as often as one worker may have the lock for.
-    pub(crate) fn go(&mut self, most: u32) -> Step<J> {
-        for _ in 0..BATCH {
-            match self.step(most) {
-                Step::Went => {}
-                step => return step,
-            }
-        }
-        Step::Went
-    }
-
-    /// The World, or why there is none.
-    pub(crate) fn into_world(self) -> Result<World<J, M>, Refused> {
-        let Held { world, why } = self;
-        match world {
-            Some(world) => Ok(world),
-            None => Err(why),
         }
     }
 }

@@ -1,9 +1,8 @@
-//! Workers that run one World under one lock.
+//! Workers that take turns with one World under one lock.
 #![tactic(auto)]
 
 mod cluster;
 mod held;
-mod together;
 
-pub use cluster::{Cluster, Turn, run_workers};
-pub use together::{Limits, run_together};
+pub use cluster::{Cluster, Step, Steps, Turn, run_workers};
+pub use held::Held;

@@ -73,7 +73,7 @@ pub enum HowEnded {
 /// A site of a program's machine: its cells, the windows of the threads that run there, and the endings that are kept there. After a refusal
 /// it is spent: nothing is known of it.
 pub trait Machine<J: Naming>: Drop {
-    type Codes: Drop + Send;
+    type Codes: Drop;
 
     type Window: Drop;
 
