@@ -13,14 +13,13 @@ use Rattle.obq_laws.specs.Determinism.{entry_of}
 use Rattle.obq_model.specs.Config.{act}
 use Rattle.obq_model.specs.Exceptions.{fork_limit}
 use Rattle.obq_model.specs.Step.{Export, Import, no_self, plug, self_at}
-use Rattle.obq_model.specs.Cells.{import_row}
-use Rattle.obq_model.specs.Store.{export, exported}
+use Rattle.obq_model.specs.Store.{export}
 use Rattle.obq_model.specs.Terms.{Bytes, Const, Okay, Term, Thread, Value}
 use Rattle.obq_model.proofs.Slices.{get_below, push_length, set_length, set_other, set_same}
 use Rattle.obq_stands.specs.Events.{Step, calling, first_cell, first_running, first_slot, moved}
 use Rattle.obq_stands.specs.Sites.{Did, ExportedHere, ImportedHere, Rest, Site, assembled, runs_at}
 use Rattle.obq_stands.specs.Stands.{after_steps}
-use Rattle.obq_stands.specs.World.{Ending, Ends, Heap, Idle, Parked, Ref, Slot, ending_term, with_at}
+use Rattle.obq_stands.specs.World.{Ending, Heap, Parked, Ref, Slot, ending_term, with_at}
 use Rattle.obq_stands.proofs.Assembled.{site_acts, site_ends, site_fork_refused, site_forks, site_joins, site_names, site_steps}
 use Rattle.obq_stands.proofs.Kept.{step_keeps}
 use Rattle.obq_stands.proofs.Opening.{begins_by}
