@@ -1,5 +1,5 @@
 -- Exports and imports as a World sees them.
-use Rattle.std.specs.Prelude.{Bool, List, Option, Some, codes, false, if◌then◌else◌, not, option_map, refl, true, ℕ, ◌&&◌, ◌≡◌}
+use Rattle.std.specs.Prelude.{Bool, List, Some, false, true, ℕ, ◌≡◌}
 use Rattle.std.specs.Prelude.{None}
 use Rattle.std.proofs.Common.{ap, sym, true≢false, ◌∙◌}
 use Rattle.obq_answers.specs.Forms.{with_focus}
@@ -8,7 +8,7 @@ use Rattle.obq_answers.proofs.SeenActs.{export_seen, name_seen}
 use Rattle.obq_base.specs.declared.acts.ActKind.{ActKind}
 use Rattle.obq_base.specs.declared.code.SourceCode.{SourceCode}
 use Rattle.obq_base.specs.declared.places.Ref.{Ref}
-use Rattle.obq_host.specs.Exports.{imported_focus, is_engine}
+use Rattle.obq_host.specs.Exports.{imported_focus}
 use Rattle.obq_host.specs.Stops.{AtForm}
 use Rattle.obq_host.specs.Threads.{DueExport, DueImport, PlainDue, due_at, due_by}
 use Rattle.obq_host.proofs.Forked.{NoStep, at_form}
@@ -25,7 +25,7 @@ use Rattle.obq_windows.specs.Complete.{IsComplete}
 use Rattle.obq_windows.specs.Rows.{import_plain}
 use Rattle.obq_windows.specs.Trees.{PlainExport, PlainImport, PlainOperation}
 use Rattle.obq_windows.specs.Values.{LocationValue, OkayValue, PlainValue, Table}
-use Rattle.obq_windows.specs.Windows.{NodeAct, NodeAfter, NodeFocus, NodeValue, node_raises}
+use Rattle.obq_windows.specs.Windows.{NodeAct, NodeAfter, NodeFocus, NodeValue}
 
 -- ---- the form that is due
 
