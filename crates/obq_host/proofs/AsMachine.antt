@@ -7,25 +7,27 @@ use Rattle.obq_base.specs.declared.code.SourceCode.{SourceCode}
 use Rattle.obq_base.specs.declared.places.Ref.{Ref}
 use Rattle.obq_except.specs.declared.windows.Window.{Window}
 use Rattle.obq_host.specs.Endings.{PlainEnding, kept_at}
+use Rattle.obq_host.specs.Exports.{seeks_at, seeks_in, value_at}
 use Rattle.obq_host.specs.Meanings.{AreCodes, meaning_of}
 use Rattle.obq_host.specs.Places.{at_place}
 use Rattle.obq_host.specs.Running.{OpensSo}
-use Rattle.obq_host.specs.Threads.{DueElse, DueEnd, DueFork, DueJoin, PlainDue, awaited, due_at}
+use Rattle.obq_host.specs.Threads.{DueImport, DueJoin, PlainDue, awaited, due_at, sought}
 use Rattle.obq_host.specs.Turns.{IsBegun, IsRunningHere, OfWindow, RunsHere, awaits_at, awaits_in}
 use Rattle.obq_host.specs.declared.host.Host.{Host}
 use Rattle.obq_host.proofs.Begun.{begins_with}
 use Rattle.obq_host.proofs.Told.{runs_on, tells_running}
-use Rattle.obq_host.proofs.Tried.{IsDueAt, awaits}
+use Rattle.obq_host.proofs.Tried.{IsDueAt, awaits, seeks}
 use Rattle.obq_host.proofs.Due.{waits_mean}
 use Rattle.obq_host.proofs.OwnCells.{Readable, acts_tried, names_ready, waits_in}
-use Rattle.obq_host.specs.CellTurns.{Acts, waits_at_cells, waits_of}
+use Rattle.obq_host.specs.CellTurns.{Acts, is_known_to_wait, waits_at_cells, waits_of}
 use Rattle.obq_host.specs.NewCells.{NamesDifferIn}
 use Rattle.obq_model.specs.Step.{self_at}
 use Rattle.obq_model.specs.Opening.{block_term}
 use Rattle.obq_model.proofs.NaturalOpening.{natural_opening}
 use Rattle.obq_moves.specs.Views.{shown}
 use Rattle.obq_stands.specs.Events.{writer_at}
-use Rattle.obq_windows.specs.Values.{Table}
+use Rattle.obq_model.specs.Terms.{Bytes}
+use Rattle.obq_windows.specs.Values.{PlainValue, Table}
 use Rattle.obq_world.specs.Acts.{Begins, CanAct, IsRunOn, TriedCases, WaitsHere}
 use Rattle.obq_world.specs.Meaning.{IsRunning}
 use Rattle.obq_world.specs.declared.machine.Slice.{Slice}
@@ -80,15 +82,17 @@ has_room now own view cells few room = subst (λ (z : Host). length z.heap.cells
 
 -- ---- threads that wait for others
 
+none_found : (o : Option (PlainValue Ref)) → IsTrue (is_none o) → o ≡ None
+none_found None h = refl
+none_found (Some v) h = absurd (true≢false (sym h))
+
 is_none_of : (o : Option PlainEnding) → IsTrue (is_none o) → o ≡ None
 is_none_of None h = refl
 is_none_of (Some kept) h = absurd (true≢false (sym h))
 
 joins_in : (kept : ℕ → Option PlainEnding) (due : PlainDue) → IsTrue (awaits_in kept (awaited due)) → (v : ℕ) × (due ≡ DueJoin v) × (kept v ≡ None)
 joins_in kept (DueJoin v) h = (v, refl, is_none_of (kept v) h)
-joins_in kept (DueFork f) h = absurd (true≢false (sym h))
-joins_in kept DueElse h = absurd (true≢false (sym h))
-joins_in kept DueEnd h = absurd (true≢false (sym h))
+joins_in kept due h = absurd (true≢false (sym h))
 
 same_shown : (o : Option Window) (w x : Window) → o ≡ Some w → o ≡ Some x → w ≡ x
 same_shown o w x e f = cc (e, f)
@@ -101,6 +105,16 @@ waits_own parts T blocks s t b e running h =
     let joins = joins_in (kept_at s.endings.items) (due_at (shown running.0).focus) at in
     awaits parts T blocks s t joins.0 (λ w here. subst (λ (z : Window). due_at (shown z).focus ≡ DueJoin joins.0) (same_shown (at_place s.windows.items t) running.0 w running.1 here) joins.1) joins.2
 
+seeks_some : (due : PlainDue) (found : Bytes → Option (PlainValue Ref)) → IsTrue (seeks_in found (sought due)) → (x : Bytes) × (engine : Bool) × (due ≡ DueImport x engine) × (found x ≡ None)
+seeks_some (DueImport x engine) found h = (x, engine, refl, none_found (found x) h)
+seeks_some due found h = absurd (true≢false (sym h))
+
+waits_name : (parts : List SourceCode) (T : Table Ref) (blocks : List BlockTree) (s : Host) (t : ℕ) → IsRunningHere s t → seeks_at (value_at s.names) (option_map shown (at_place s.windows.items t)) ≡ true → WaitsHere (meaning_of parts T blocks) s t
+waits_name parts T blocks s t running e =
+    let at : IsTrue (seeks_in (value_at s.names) (sought (due_at (shown running.0).focus))) = sym (ap (λ (o : Option Window). seeks_at (value_at s.names) (option_map shown o)) running.1) ∙ e in
+    let x = seeks_some (due_at (shown running.0).focus) (value_at s.names) at in
+    seeks parts T blocks s t x.0 x.1 (λ w here. subst (λ (z : Window). due_at (shown z).focus ≡ DueImport x.0 x.1) (same_shown (at_place s.windows.items t) running.0 w running.1 here) x.2) x.3
+
 waits_cells : (parts : List SourceCode) (T : Table Ref) (blocks : List BlockTree) (s : Host) (t : ℕ) → IsRunningHere s t → waits_at_cells s t ≡ true → WaitsHere (meaning_of parts T blocks) s t
 waits_cells parts T blocks s t running e h w a self u is here k =
     let z = waits_mean parts T is.agrees t s.heap (shown w) (sym (ap (waits_of t s.heap) here) ∙ e) h is.cells a self u k in
@@ -110,14 +124,18 @@ either : (a b : Bool) → (a || b) ≡ true → (a ≡ true) ⊎ (b ≡ true)
 either true b e = inl refl
 either false b e = inr e
 
-pub waits : (parts : List SourceCode) (T : Table Ref) (blocks : List BlockTree) (now own : Host) → now ≡ own → (t : ℕ) (b : Bool) → b ≡ (awaits_at (kept_at own.endings.items) (option_map shown (at_place own.windows.items t)) || waits_at_cells own t) → IsRunningHere now t → IsTrue b
+pub waits : (parts : List SourceCode) (T : Table Ref) (blocks : List BlockTree) (now own : Host) → now ≡ own → (t : ℕ) (b : Bool) → (IsTrue b → IsTrue (is_known_to_wait own t)) → IsRunningHere now t → IsTrue b
     → WaitsHere (meaning_of parts T blocks) now t
 waits parts T blocks now own view t b e running h =
-    subst (λ (z : Host). WaitsHere (meaning_of parts T blocks) z t) (sym view) (by (either (awaits_at (kept_at own.endings.items) (option_map shown (at_place own.windows.items t))) (waits_at_cells own t) (sym e ∙ h)))
+    subst (λ (z : Host). WaitsHere (meaning_of parts T blocks) z t) (sym view) (by (either (awaits_at (kept_at own.endings.items) (option_map shown (at_place own.windows.items t)) || seeks_at (value_at own.names) (option_map shown (at_place own.windows.items t))) (waits_at_cells own t) (e h)))
   where
     there : IsRunningHere own t
     there = subst (λ (z : Host). IsRunningHere z t) view running
 
-    by : (awaits_at (kept_at own.endings.items) (option_map shown (at_place own.windows.items t)) ≡ true) ⊎ (waits_at_cells own t ≡ true) → WaitsHere (meaning_of parts T blocks) own t
-    by (inl x) = waits_own parts T blocks own t true (sym x) there refl
+    on_threads : (awaits_at (kept_at own.endings.items) (option_map shown (at_place own.windows.items t)) ≡ true) ⊎ (seeks_at (value_at own.names) (option_map shown (at_place own.windows.items t)) ≡ true) → WaitsHere (meaning_of parts T blocks) own t
+    on_threads (inl x) = waits_own parts T blocks own t true (sym x) there refl
+    on_threads (inr x) = waits_name parts T blocks own t there x
+
+    by : ((awaits_at (kept_at own.endings.items) (option_map shown (at_place own.windows.items t)) || seeks_at (value_at own.names) (option_map shown (at_place own.windows.items t))) ≡ true) ⊎ (waits_at_cells own t ≡ true) → WaitsHere (meaning_of parts T blocks) own t
+    by (inl x) = on_threads (either (awaits_at (kept_at own.endings.items) (option_map shown (at_place own.windows.items t))) (seeks_at (value_at own.names) (option_map shown (at_place own.windows.items t))) x)
     by (inr x) = waits_cells parts T blocks own t there x

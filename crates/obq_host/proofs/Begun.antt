@@ -7,6 +7,7 @@ use Rattle.obq_base.specs.declared.code.SourceCode.{SourceCode}
 use Rattle.obq_base.specs.declared.places.Ref.{Ref}
 use Rattle.obq_except.specs.declared.windows.Window.{Window}
 use Rattle.obq_host.specs.Endings.{EndingReads, kept_at}
+use Rattle.obq_host.specs.Exports.{ExportsRead}
 use Rattle.obq_host.specs.Meanings.{meaning_of}
 use Rattle.obq_host.specs.Places.{at_place}
 use Rattle.obq_host.specs.Seen.{HeapIs, heap_of, of_kind, seen_placed}
@@ -73,4 +74,5 @@ begins_with parts T blocks g w s h =
       size = subst (λ z. length z.cells ≤ 1) (sym h.heap) (omega arith);
       windows = λ u. ap (λ z. at_place z u) h.windows ∙ window_at w u;
       ended = λ v. subst (λ z. EndingReads T (kept_at z v) None) (sym h.endings) refl;
+      names = subst (λ z. ExportsRead T z []) (sym h.names) (record { reads = refl; complete = tt });
     }

@@ -6,7 +6,9 @@ pub mod Ended
 pub mod Finished
 pub mod Forked
 pub mod Forms
+pub mod Imported
 pub mod Meant
+pub mod Named
 pub mod OwnCells
 mod Placing
 mod Refocused

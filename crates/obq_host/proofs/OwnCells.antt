@@ -9,6 +9,7 @@ use Rattle.obq_except.specs.declared.windows.Window.{Window}
 use Rattle.obq_host.specs.CellTurns.{Acts, ActsOnOwnCells, OnCells, OnThreads, tried_of}
 use Rattle.obq_host.specs.Doing.{IdleAgain, IdleAtOne, IsIdle}
 use Rattle.obq_host.specs.Endings.{EndingReads, kept_at}
+use Rattle.obq_host.specs.Exports.{ExportsRead}
 use Rattle.obq_host.specs.Meanings.{CellsRead, meaning_of}
 use Rattle.obq_host.specs.NewCells.{NamesDifferIn}
 use Rattle.obq_host.specs.OnCells.{ActsOnCells, CellActMeans}
@@ -37,22 +38,23 @@ use Rattle.obq_windows.specs.Agrees.{Agrees}
 use Rattle.obq_windows.specs.Trees.{PlainOperation}
 use Rattle.obq_windows.specs.Values.{Table}
 use Rattle.obq_windows.specs.Windows.{NodeAct, NodeAfter, NodeFocus}
-use Rattle.obq_world.specs.Acts.{AgainWaits, AtCellWaits, DoesRow, Leaves, MakesCell, TriedCases, WaitsIn, same_endings}
+use Rattle.obq_world.specs.Acts.{AgainWaits, AtCellWaits, DoesRow, Leaves, MakesCell, TriedCases, WaitsIn, same_endings, same_names}
 use Rattle.obq_world.specs.Meaning.{IsBottom, NeedsAct}
 use Rattle.obq_world.specs.declared.machine.Tried.{Tried}
 
 -- ---- what the calls do
 
 pub acts_on_own : (parts : List SourceCode) (old new : Host) (mid : List (Option Window)) (t born : ℕ) (act : CellAct) (v w : Window)
-    → Some v ≡ at_place old.windows.items t → IsWith old.windows.items t None mid → ActsOnCells parts t old.heap born (shown v) (plain_heap new.heap) (shown w) act → (act ≡ c.Waits → w ≡ v) → IsWith mid t (Some w) new.windows.items → new.endings ≡ old.endings
+    → Some v ≡ at_place old.windows.items t → IsWith old.windows.items t None mid → ActsOnCells parts t old.heap born (shown v) (plain_heap new.heap) (shown w) act → (act ≡ c.Waits → w ≡ v) → IsWith mid t (Some w) new.windows.items → new.endings ≡ old.endings → new.names ≡ old.names
     → ActsOnOwnCells parts old t born act new
-acts_on_own parts old new mid t born act v w there out acts same into endings =
+acts_on_own parts old new mid t born act v w there out acts same into endings names =
     record {
       window = w;
       acts = λ x here. subst (λ (z : Window). ActsOnCells parts t old.heap born (shown z) (plain_heap new.heap) (shown w) act) (same_window (at_place old.windows.items t) v x there here) acts;
       still = λ e. sym there ∙ ap Some (sym (same e));
       windows = put_back old.windows.items mid new.windows.items t w out into;
       endings = endings;
+      names = names;
     }
 
 pub on_threads : (parts : List SourceCode) (old new : Host) (t born threads : ℕ) (came : Option Tried) (tried : Tried) → ComesOf old t threads came new → came ≡ Some tried → Acts parts old t born threads new tried
@@ -87,10 +89,10 @@ needs_of _ (ByStep u) (inr h) = no_bottom u h
 
 -- ---- in the words of a World
 
-cells_leave : (parts : List SourceCode) (T : Table Ref) (blocks : List BlockTree) → Agrees T (store parts) → (old new : Host) (t : ℕ) (w : Window) (heap behind : world.Heap) → HeapIs T (plain_heap new.heap) behind → IsWith old.windows.items t (Some w) new.windows.items → new.endings ≡ old.endings
-    → Leaves (meaning_of parts T blocks) old behind (with_at (at_place old.windows.items) t (Some w)) same_endings new
-cells_leave parts T blocks g old new t w heap behind is windows endings =
-    record { heap = record { agrees = g; cells = is }; windows = windows; ended = λ v o h. subst (λ z. EndingReads T (kept_at z.items v) o) (sym endings) h }
+cells_leave : (parts : List SourceCode) (T : Table Ref) (blocks : List BlockTree) → Agrees T (store parts) → (old new : Host) (t : ℕ) (w : Window) (heap behind : world.Heap) → HeapIs T (plain_heap new.heap) behind → IsWith old.windows.items t (Some w) new.windows.items → new.endings ≡ old.endings → new.names ≡ old.names
+    → Leaves (meaning_of parts T blocks) old behind (with_at (at_place old.windows.items) t (Some w)) same_endings same_names new
+cells_leave parts T blocks g old new t w heap behind is windows endings names =
+    record { heap = record { agrees = g; cells = is }; windows = windows; ended = λ v o h. subst (λ z. EndingReads T (kept_at z.items v) o) (sym endings) h; names = λ exports h. subst (λ z. ExportsRead T z exports) (sym names) h }
 
 pub waits_in : (parts : List SourceCode) (T : Table Ref) (blocks : List BlockTree) (s : Host) (h : world.Heap) (t : ℕ) (z : Self world.Ref) (o : Operation world.Ref) → IsIdle h t z o → WaitsIn (meaning_of parts T blocks) s h t z o
 waits_in parts T blocks s h t z _ (IdleAtOne op r x at of there row) = AtCellWaits op r x at of there row
@@ -134,12 +136,12 @@ pub tried_on_cells : (parts : List SourceCode) (T : Table Ref) (blocks : List Bl
     → (act : CellAct) → CameOf parts old t cells act new → TriedCases (meaning_of parts T blocks) old t cells threads (tried_of act) new
 tried_on_cells parts T blocks old new t cells threads running due readable size (c.Did act) h = (
   λ w here heap a self u is k. let z = at_cells parts T blocks old new t cells (c.Did act) due h w here heap a self u is k in
-      DoesRow z.operation z.around act.kind act.loc z.means.behind z.means.x h.1.window new z.next z.means.did z.means.reads (cells_leave parts T blocks is.agrees old new t h.1.window heap z.means.behind z.means.heap h.1.windows h.1.endings),
+      DoesRow z.operation z.around act.kind act.loc z.means.behind z.means.x h.1.window new z.next z.means.did z.means.reads (cells_leave parts T blocks is.agrees old new t h.1.window heap z.means.behind z.means.heap h.1.windows h.1.endings h.1.names),
   let n = cells_size parts t old.heap cells (shown running.0) new.heap (shown h.1.window) (c.Did act) (h.1.acts running.0 running.1) in omega (arith, n, size),
 )
 tried_on_cells parts T blocks old new t cells threads running due readable size (c.Made act) h = (
   λ w here heap a self u is k. let z = at_cells parts T blocks old new t cells (c.Made act) due h w here heap a self u is k in
-      MakesCell z.operation z.around act.kind act.loc z.means.behind z.means.x h.1.window new z.next z.means.did z.means.reads (cells_leave parts T blocks is.agrees old new t h.1.window heap z.means.behind z.means.heap h.1.windows h.1.endings),
+      MakesCell z.operation z.around act.kind act.loc z.means.behind z.means.x h.1.window new z.next z.means.did z.means.reads (cells_leave parts T blocks is.agrees old new t h.1.window heap z.means.behind z.means.heap h.1.windows h.1.endings h.1.names),
   let n = cells_size parts t old.heap cells (shown running.0) new.heap (shown h.1.window) (c.Made act) (h.1.acts running.0 running.1) in omega (arith, n, size),
 )
 tried_on_cells parts T blocks old new t cells threads running due readable size c.Waits h =
@@ -151,6 +153,7 @@ tried_on_cells parts T blocks old new t cells threads running due readable size 
         size = cells_size parts t old.heap cells (shown running.0) new.heap (shown h.1.window) c.Waits (h.1.acts running.0 running.1);
         windows = subst (λ (x : Window). IsWith old.windows.items t (Some x) new.windows.items) (same_window (at_place old.windows.items t) h.1.window w (sym own) here) h.1.windows;
         ended = λ v o k. subst (λ y. EndingReads T (kept_at y.items v) o) (sym h.1.endings) k;
+        names = λ exports k. subst (λ y. ExportsRead T y exports) (sym h.1.names) k;
       },
       λ heap w a self u is here k. let old_here : at_place old.windows.items t ≡ Some w = own ∙ ap Some (same_window (at_place new.windows.items t) h.1.window w (sym there) here) in
           let y = at_cells parts T blocks old new t cells c.Waits due h w old_here heap a self u (same_cells T parts new old heap (sym z.means.same) is) k in

@@ -9,6 +9,7 @@ use Rattle.obq_heap.specs.Heap.{cell_at, placed_at}
 use Rattle.obq_heap.specs.declared.cells.Cell.{Cell}
 use Rattle.obq_heap.specs.declared.cells.Placed.{Placed}
 use Rattle.obq_host.specs.Endings.{EndingReads, PlainEnding, PlainFailed, PlainReturned, kept_at}
+use Rattle.obq_host.specs.Exports.{ExportsRead}
 use Rattle.obq_host.specs.Meanings.{CellsRead, meaning_of}
 use Rattle.obq_host.specs.Places.{IsWith, at_place}
 use Rattle.obq_host.specs.Running.{StopSays}
@@ -98,6 +99,7 @@ rewinds parts T blocks old new t w windows same =
       size = ap (λ z. length z.cells) same.heap;
       windows = windows;
       ended = λ v o h. subst (λ z. EndingReads T (kept_at z.items v) o) (sym same.endings) h;
+      names = λ exports h. subst (λ z. ExportsRead T z exports) (sym same.names) h;
     }
 
 pub runs_on : (parts : List SourceCode) (T : Table Ref) (blocks : List BlockTree) → Agrees T (store parts) → (old new : Host) (t most : ℕ) (slice : Slice) → RunsHere parts old t most slice new → IsRunningHere old t → IsRunOn (meaning_of parts T blocks) old t most slice new

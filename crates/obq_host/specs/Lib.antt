@@ -2,6 +2,7 @@ pub mod Acting
 pub mod CellTurns
 pub mod Doing
 pub mod Endings
+pub mod Exports
 pub mod Meanings
 pub mod NewCells
 pub mod OnCells

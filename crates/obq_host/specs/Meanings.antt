@@ -6,6 +6,7 @@ use Rattle.obq_base.specs.declared.code.SourceCode.{SourceCode}
 use Rattle.obq_base.specs.declared.places.Ref.{Ref}
 use Rattle.obq_except.specs.declared.windows.Window.{Window}
 use Rattle.obq_host.specs.Endings.{EndingReads, kept_at}
+use Rattle.obq_host.specs.Exports.{ExportsRead}
 use Rattle.obq_host.specs.Places.{at_place}
 use Rattle.obq_host.specs.declared.host.Host.{Host}
 use Rattle.obq_model.specs.Occurrences.{unbound}
@@ -44,4 +45,5 @@ meaning_of parts T blocks = record {
   size = λ s. length s.heap.cells;
   windows = λ s t. at_place s.windows.items t;
   ended = λ s v o. EndingReads T (kept_at s.endings.items v) o;
+  names = λ s exports. ExportsRead T s.names exports;
 }

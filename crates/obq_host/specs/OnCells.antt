@@ -22,7 +22,7 @@ use Rattle.obq_site.specs.Cells.{PlainHeap, plain_heap}
 use Rattle.obq_stands.specs.World.{same_ref}
 use Rattle.obq_stands.specs.World as world
 use Rattle.obq_windows.specs.Agrees.{Agrees}
-use Rattle.obq_windows.specs.Trees.{PlainAgain, PlainCloning, PlainNewArray, PlainNewCondition, PlainNewVariable, PlainOperation}
+use Rattle.obq_windows.specs.Trees.{PlainAgain, PlainCloning, PlainNewArray, PlainNewCondition, PlainNewEngine, PlainNewVariable, PlainOperation}
 use Rattle.obq_windows.specs.Values.{Table}
 use Rattle.obq_windows.specs.Windows.{NodeAct, NodeFocus}
 
@@ -31,6 +31,7 @@ family_of (PlainAgain object condition) = f.Watch
 family_of PlainNewCondition = f.New
 family_of (PlainNewVariable v) = f.New
 family_of (PlainNewArray vs) = f.New
+family_of (PlainNewEngine x namer v) = f.New
 family_of (PlainCloning flags fields []) = f.New
 family_of op = f.One
 

@@ -1,4 +1,4 @@
--- Forks and joins, told of what windows show.
+-- What is due in a window, forks and joins, told of what windows show.
 use Rattle.std.specs.Prelude.{Bool, List, None, Option, Some, [], codes, false, if◌then◌else◌, nat_le, option_map, true, ℕ, ◌≡◌}
 use Rattle.obq_answers.specs.Beginnings.{Around, called_shown}
 use Rattle.obq_answers.specs.Forms.{with_focus}
@@ -10,8 +10,9 @@ use Rattle.obq_host.specs.Places.{IsWith, IsWithTwo}
 use Rattle.obq_host.specs.declared.threads.Due.{Due}
 use Rattle.obq_host.specs.declared.threads.Due.TheVariants as d
 use Rattle.obq_model.specs.Step.{no_self}
+use Rattle.obq_model.specs.Terms.{Bytes}
 use Rattle.obq_moves.specs.Views.{Shown, plain_value, shown}
-use Rattle.obq_windows.specs.Trees.{PlainForkOff, PlainJoin, PlainOperation}
+use Rattle.obq_windows.specs.Trees.{PlainExport, PlainForkOff, PlainImport, PlainJoin, PlainOperation}
 use Rattle.obq_windows.specs.Values.{PlainValue, ThreadValue}
 use Rattle.obq_windows.specs.Windows.{NodeAct, NodeFocus, NodeValue, node_raises}
 
@@ -20,18 +21,24 @@ use Rattle.obq_windows.specs.Windows.{NodeAct, NodeFocus, NodeValue, node_raises
 pub data PlainDue : Type 0 where
   DueFork : PlainValue Ref → PlainDue
   DueJoin : ℕ → PlainDue
+  DueExport : (name : Bytes) → PlainValue Ref → PlainDue
+  DueImport : (name : Bytes) → (engine : Bool) → PlainDue
   DueElse : PlainDue  -- any other act
   DueEnd : PlainDue
 
 abbrev pub plain_due : Due → PlainDue
 plain_due (d.Fork procedure) = DueFork (plain_value procedure)
 plain_due (d.Join thread) = DueJoin thread.0
+plain_due (d.Export name value) = DueExport name (plain_value value)
+plain_due (d.Import name engine) = DueImport name engine
 plain_due d.Act = DueElse
 plain_due d.End = DueEnd
 
 abbrev pub due_by : PlainOperation Ref → PlainDue
 due_by (PlainForkOff f) = DueFork f
 due_by (PlainJoin thread) = DueJoin thread
+due_by (PlainExport x namer v) = DueExport x v
+due_by (PlainImport x namer engine) = DueImport x engine
 due_by op = DueElse
 
 abbrev pub due_at : NodeFocus Ref → PlainDue
@@ -42,6 +49,11 @@ due_at x = DueEnd
 abbrev pub awaited : PlainDue → Option ℕ
 awaited (DueJoin thread) = Some thread
 awaited due = None
+
+-- the name that is imported
+abbrev pub sought : PlainDue → Option Bytes
+sought (DueImport x engine) = Some x
+sought due = None
 
 -- ---- a fork, before which there were so many threads
 

@@ -1,12 +1,10 @@
 //! What a site does for a thread whose act is one on cells, and all of its acts.
 
-ghost use Rattle.std.specs.Prelude.{◌≡◌, ◌<◌, ◌^◌, ◌||◌, IfOk, length, option_map};
-ghost use Rattle.obq_host.specs.CellTurns.{Acts, ActsOnOwnCells, tried_of, waits_at_cells};
-ghost use Rattle.obq_host.specs.Endings.{kept_at};
+ghost use Rattle.std.specs.Prelude.{◌≡◌, ◌<◌, ◌^◌, IfOk, IsTrue, length};
+ghost use Rattle.obq_host.specs.CellTurns.{Acts, ActsOnOwnCells, is_known_to_wait, tried_of, waits_at_cells};
 ghost use Rattle.obq_host.specs.NewCells.{NamesDifferIn};
 ghost use Rattle.obq_host.specs.OnCells.{ActsOnCells};
-ghost use Rattle.obq_host.specs.Places.{at_place};
-ghost use Rattle.obq_host.specs.Turns.{OfWindow, awaits_at};
+ghost use Rattle.obq_host.specs.Turns.{OfWindow};
 ghost use Rattle.obq_host.specs.declared.on_cells.CellAct.TheVariants as act;
 ghost use Rattle.obq_moves.specs.Views.{plain_focus, shown};
 ghost use Rattle.obq_site.specs.Cells.{plain_heap};
@@ -105,9 +103,9 @@ impl Host {
 
     /// Whether the act that stands next in the thread's window waits. It may also be told `false` of an act that waits.
     pub fn waits(&self, thread: ThreadId) -> bool
-        ensures { result ≡ (awaits_at (kept_at self.now.endings.items) (option_map shown (at_place self.now.windows.items thread.0)) || waits_at_cells self.now thread.0) }
+        ensures { IsTrue result → IsTrue (is_known_to_wait self.now thread.0) }
     {
-        self.awaits(thread) || self.waits_at_cells(thread)
+        self.awaits(thread) || self.seeks(thread) || self.waits_at_cells(thread)
     }
 
     fn waits_at_cells(&self, thread: ThreadId) -> bool

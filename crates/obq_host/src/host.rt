@@ -10,6 +10,7 @@ use crate::places::look_at;
 use obq_base::{Kind, NoMemory, Ref, SiteId, Text, ThreadId, Value};
 use obq_except::Window;
 use obq_heap::{Cell, SiteHeap, Written};
+use obq_namer::Namer;
 use obq_world::HowEnded;
 use std::alloc::Global;
 
@@ -20,13 +21,14 @@ pub enum Ending {
     Failed(Text),
 }
 
-/// A site: its cells, and by the numbers of threads the windows of those that run here and the endings that are kept here.
+/// A site: its cells, the exported names that are kept here, and by the numbers of threads the windows of those that run here and the endings that are kept here.
 #[derive(Drop)]
 pub struct Host {
     pub(crate) alloc: Global,
     pub(crate) heap: SiteHeap,
     pub(crate) windows: Vec<Option<Window>>,
     pub(crate) endings: Vec<Option<Ending>>,
+    pub(crate) names: Namer,
 }
 
 /// The cells of a site that begins.
@@ -67,6 +69,7 @@ impl Host {
             heap,
             windows,
             endings: Vec::new(alloc),
+            names: Namer::new(alloc),
         })
     }
 

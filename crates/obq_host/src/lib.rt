@@ -5,6 +5,7 @@ mod acting;
 mod cell_turns;
 mod endings;
 mod host;
+mod names;
 mod new_cells;
 mod on_cells;
 mod places;

@@ -17,7 +17,7 @@ use obq_base::{Act, FieldBody, Flags, Name, Ref};
 use obq_code::Codes;
 use obq_except::{After, Focus, Operation, Window};
 use obq_heap::SiteHeap;
-use obq_site::{Outcome, new_array, new_clone, new_condition, new_variable};
+use obq_site::{Outcome, new_array, new_clone, new_condition, new_engine, new_variable};
 use std::alloc::Global;
 
 /// The object of a literal, or a clone of objects that were all copied.
@@ -59,6 +59,9 @@ fn make(
         Operation::NewCondition => Ok(new_condition(alloc, heap, born)?),
         Operation::NewVariable { value } => Ok(new_variable(alloc, heap, value, born)?),
         Operation::NewArray { items } => Ok(new_array(alloc, heap, items.as_slice(), born)?),
+        Operation::NewEngine { name, namer, value } => {
+            Ok(new_engine(alloc, heap, name, namer, value, born)?)
+        }
         Operation::Cloning {
             flags,
             copied,
@@ -106,8 +109,7 @@ fn try_new(alloc: Global, heap: &mut SiteHeap, born: u64, w: &Window) -> Result<
     }
 }
 
-/// Makes the cell that the operation makes at whose form the window is, with this number of its allocation. Another operation, and one that makes
-/// an engine, is beyond this.
+/// Makes the cell that the operation makes at whose form the window is, with this number of its allocation. Another operation is beyond this.
 pub fn make_cell(
     alloc: Global,
     codes: &Codes,

@@ -46,6 +46,7 @@ fn family_of(operation: &Operation) -> Family
         Operation::NewCondition => Family::New,
         Operation::NewVariable { .. } => Family::New,
         Operation::NewArray { .. } => Family::New,
+        Operation::NewEngine { .. } => Family::New,
         Operation::Cloning { rest, .. } => match rest.as_slice().first() {
             Some(_) => Family::One,
             None => Family::New,
@@ -73,8 +74,8 @@ fn old_cells(made: Option<Act>) -> CellAct
     }
 }
 
-/// Does the act at whose form the window is, if it is one on cells; a new cell has this number of its allocation. Engines and names are beyond
-/// this, and what names a cell that isn't here.
+/// Does the act at whose form the window is, if it is one on cells; a new cell has this number of its allocation. Names are beyond this, and
+/// what names a cell that isn't here.
 pub fn act_on_cells(
     alloc: Global,
     codes: &Codes,

@@ -1,4 +1,4 @@
-//! Threads that begin, and threads that wait for others to end.
+//! What is due in a window, threads that begin, and threads that wait for others to end.
 
 ghost use Rattle.std.specs.Prelude.{◌≡◌, [], IfOk, Some, codes, option_map};
 ghost use Rattle.obq_answers.specs.Beginnings.{around_of, called_shown};
@@ -6,7 +6,7 @@ ghost use Rattle.obq_answers.specs.Forms.{with_focus};
 ghost use Rattle.obq_except.specs.declared.windows.Window.{Window};
 ghost use Rattle.obq_host.specs.Endings.{kept_at, plain_ending};
 ghost use Rattle.obq_host.specs.Places.{at_place};
-ghost use Rattle.obq_host.specs.Threads.{Forks, IsForked, Joins, Refocuses, around_thread, awaited, due_at, due_by, forked_focus, forked_window, joined_focus, plain_due};
+ghost use Rattle.obq_host.specs.Threads.{DueExport, DueImport, Forks, IsForked, Joins, Refocuses, around_thread, awaited, due_at, due_by, forked_focus, forked_window, joined_focus, plain_due};
 ghost use Rattle.obq_moves.specs.Views.{plain_focus, plain_operation, plain_value, shown};
 ghost use Rattle.obq_windows.specs.Values.{ThreadValue};
 ghost use Rattle.obq_windows.specs.Windows.{node_raises};
@@ -15,7 +15,7 @@ use crate::host::Ending;
 use crate::places::{look_at, put_at, put_two, take_at};
 use obq_answers::{Around, called_window};
 use obq_base::limits::THREAD_LIMIT;
-use obq_base::{NoMemory, Raised, SiteId, ThreadId, Value};
+use obq_base::{Name, NoMemory, Raised, SiteId, Text, ThreadId, Value};
 use obq_except::{CurrentSelf, Focus, Operation, Raising, Window};
 use obq_moves::moves::raise;
 use obq_moves::places::put;
@@ -28,9 +28,35 @@ pub(crate) enum Due {
     /// A thread that begins with this procedure.
     Fork(Value),
     Join(ThreadId),
+    /// The name gets this value.
+    Export(Name, Value),
+    /// The value with the name, or the engine.
+    Import(Name, bool),
     /// Any other act.
     Act,
     End,
+}
+
+/// The name that a text spells.
+pub(crate) fn name_of(alloc: Global, text: &Text) -> Result<Name, NoMemory>
+    ensures { IfOk result (λ name. name ≡ text.now) }
+{
+    Ok(Name::new(Vec::from_slice(alloc, text.as_bytes())?))
+}
+
+fn due_export(alloc: Global, name: &Text, value: &Value) -> Result<Due, NoMemory>
+    ensures { IfOk result (λ due. plain_due due ≡ DueExport name.now (plain_value value.now)) }
+{
+    let value = value.copy(alloc)?;
+    let name = name_of(alloc, name)?;
+    Ok(Due::Export(name, value))
+}
+
+fn due_import(alloc: Global, name: &Text, engine: bool) -> Result<Due, NoMemory>
+    ensures { IfOk result (λ due. plain_due due ≡ DueImport name.now engine) }
+{
+    let name = name_of(alloc, name)?;
+    Ok(Due::Import(name, engine))
 }
 
 fn due_by(alloc: Global, operation: &Operation) -> Result<Due, NoMemory>
@@ -39,6 +65,8 @@ fn due_by(alloc: Global, operation: &Operation) -> Result<Due, NoMemory>
     match operation {
         Operation::ForkOff { procedure } => Ok(Due::Fork(procedure.copy(alloc)?)),
         Operation::Join { thread, .. } => Ok(Due::Join(*thread)),
+        Operation::Export { name, value, .. } => due_export(alloc, name, value),
+        Operation::Import { name, engine, .. } => due_import(alloc, name, *engine),
         _ => Ok(Due::Act),
     }
 }

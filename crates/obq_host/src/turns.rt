@@ -1,19 +1,21 @@
-//! What a site does for threads that end, fork and join.
+//! What a site does for threads that end, fork, join, export and import.
 
-ghost use Rattle.std.specs.Prelude.{◌≡◌, IfOk, None, option_map};
+ghost use Rattle.std.specs.Prelude.{◌≡◌, IfOk, IsTrue, None, option_map};
 ghost use Rattle.obq_host.specs.Endings.{ending_of, kept_at, plain_ending};
+ghost use Rattle.obq_host.specs.Exports.{seeks_at, value_at};
 ghost use Rattle.obq_host.specs.Places.{IsWith, at_place};
-ghost use Rattle.obq_host.specs.Threads.{DueFork, DueJoin, due_at, plain_due};
-ghost use Rattle.obq_host.specs.Turns.{ActsOnThreads, ComesOf, EndsHere, ForksHere, InPlace, JoinsHere, OfWindow, awaits_at};
+ghost use Rattle.obq_host.specs.Threads.{DueExport, DueFork, DueImport, DueJoin, due_at, plain_due};
+ghost use Rattle.obq_host.specs.Turns.{ActsOnThreads, ComesOf, EndsHere, ExportsHere, ForksHere, ImportsHere, InPlace, JoinsHere, OfWindow, awaits_at};
 ghost use Rattle.obq_model.specs.Config as config;
 ghost use Rattle.obq_moves.specs.Views.{plain_value, shown};
 
 use crate::endings::end_of;
 use crate::host::{Ending, Host};
+use crate::names::{after_export, import_name, is_missing, sought};
 use crate::places::{look_at, put_at, take_at};
 use crate::threads::{Due, awaited, due_at, fork_thread, join_thread};
 use obq_base::limits::THREAD_LIMIT;
-use obq_base::{Act, ActKind, NoMemory, ThreadId, Value};
+use obq_base::{Act, ActKind, Name, NoMemory, ThreadId, Value};
 use obq_except::Window;
 use obq_world::{Made, Refused, Tried};
 use std::alloc::Global;
@@ -75,6 +77,26 @@ impl Host {
         join_thread(self.alloc, &mut self.windows, &self.endings, thread, other)
     }
 
+    fn export(&mut self, thread: ThreadId, name: Name, value: Value) -> Result<(), NoMemory>
+        ensures { IfOk result (λ _. ExportsHere self.old thread.0 name value self.new) }
+    {
+        self.names.export(name, value)?;
+        after_export(&mut self.windows, thread)
+    }
+
+    fn import(&mut self, thread: ThreadId, name: &Name, engine: bool) -> Result<bool, NoMemory>
+        ensures { IfOk result (λ done. ImportsHere self.old thread.0 name.now engine done self.new) }
+    {
+        import_name(
+            self.alloc,
+            &mut self.windows,
+            &self.names,
+            thread,
+            name,
+            engine,
+        )
+    }
+
     fn fork_off(
         &mut self,
         thread: ThreadId,
@@ -105,7 +127,36 @@ impl Host {
         }
     }
 
-    /// Does the act that is due in the thread's window, if it is the end, a fork or a join; so many threads were made before it.
+    fn export_name(
+        &mut self,
+        thread: ThreadId,
+        name: Name,
+        value: Value,
+        threads: u32,
+    ) -> Result<Tried, Refused>
+        ensures { IfOk result (λ tried. OfWindow self.old thread.0 (λ s. due_at s.focus ≡ DueExport name (plain_value value)) → ActsOnThreads self.old thread.0 threads self.new tried) }
+    {
+        self.export(thread, name, value)?;
+        Ok(Tried::Did(act(ActKind::Export, 0), Made::Nothing))
+    }
+
+    fn import_name(
+        &mut self,
+        thread: ThreadId,
+        name: &Name,
+        engine: bool,
+        threads: u32,
+    ) -> Result<Tried, Refused>
+        ensures { IfOk result (λ tried. OfWindow self.old thread.0 (λ s. due_at s.focus ≡ DueImport name.now engine) → ActsOnThreads self.old thread.0 threads self.new tried) }
+    {
+        if self.import(thread, name, engine)? {
+            Ok(Tried::Did(act(ActKind::Import, 0), Made::Nothing))
+        } else {
+            Ok(Tried::Waits)
+        }
+    }
+
+    /// Does the act that is due in the thread's window, if it is the end, a fork, a join, an export or an import; so many threads were made before it.
     pub(crate) fn act_on_threads(
         &mut self,
         thread: ThreadId,
@@ -116,6 +167,10 @@ impl Host {
         match due_of(self.alloc, &self.windows, thread)? {
             Due::Fork(procedure) => Ok(Some(self.fork_off(thread, procedure, threads)?)),
             Due::Join(other) => Ok(Some(self.join_with(thread, other, threads)?)),
+            Due::Export(name, value) => Ok(Some(self.export_name(thread, name, value, threads)?)),
+            Due::Import(name, engine) => Ok(Some(self.import_name(
+                thread, &name, engine, threads,
+            )?)),
             Due::Act => Ok(None),
             Due::End => {
                 self.end(thread)?;
@@ -134,6 +189,19 @@ impl Host {
         match awaited(&window.focus) {
             None => false,
             Some(other) => look_at(&self.endings, other.0 as usize).is_none(),
+        }
+    }
+
+    /// Whether the thread waits for a name that isn't there. It may also be told `false` of one that does.
+    pub(crate) fn seeks(&self, thread: ThreadId) -> bool
+        ensures { IsTrue result → IsTrue (seeks_at (value_at self.now.names) (option_map shown (at_place self.now.windows.items thread.0))) }
+    {
+        let Some(window) = look_at(&self.windows, thread.0 as usize) else {
+            return false;
+        };
+        match sought(&window.focus) {
+            None => false,
+            Some(name) => is_missing(self.alloc, &self.names, name),
         }
     }
 }

@@ -20,6 +20,7 @@ use Rattle.obq_model.specs.Spans.{NoneOutsideHolds, NoneOutsideMigrations, event
 use Rattle.obq_run.specs.declared.ends.Cause.{Cause}
 use Rattle.obq_run.specs.declared.ends.Cause.TheVariants.{BadJournal, JournalTooLong, NoMemory, NotLegal, ReadFault, Refused, SourceTooLong, Unfinished}
 use Rattle.obq_run.specs.Ends.{IsCheckedOrNoMemory, IsRanOrNoMemory, IsRefusedOrNoMemory, IsReplayedOrNoMemory, IsTooLongOrNoMemory}
+use Rattle.obq_run.specs.Linked.{link_rows, links_part}
 use Rattle.obq_run.specs.Held.{AreHeld, AreTold, AreWithinLimit, IsFaultAt, IsFirstTooLong, IsTooLongAt}
 
 -- ---- histories

@@ -13,15 +13,24 @@ use crate::playing::{Played, SLICE, play};
 use crate::steps::Steps;
 use obq_base::limits::TURN_LIMIT;
 use obq_base::{Block, NoMemory};
-use obq_cluster::{Limits, run_together};
+use obq_cluster::{Cluster, Held, run_workers};
 use obq_code::Codes;
 use obq_host::Site;
 use obq_io::Gate;
-use obq_world::{Ended, Naming, Refused};
+use obq_world::{Ended, Naming, Refused, World, run_on};
 use std::alloc::Global;
 use std::marker::Brand;
 use std::sync::Wait;
 use std::thread::Threads;
+
+/// Limits of a run.
+#[derive(Clone, Copy, Debug, PartialEq, Eq)]
+pub struct Limits {
+    /// How many turns each thread has.
+    pub turns: u32,
+    /// How many threads of the host run a program of one source.
+    pub workers: u32,
+}
 
 /// Runs the program that is named, which is that of these blocks and codes.
 fn run_named<J: Naming + Send + Sync, R: Threads + Wait + Sync, G: Gate>(
@@ -39,7 +48,11 @@ fn run_named<J: Naming + Send + Sync, R: Threads + Wait + Sync, G: Gate>(
     ensures { IfOk result (IsEndOf J.program J.turns) }
 {
     let _ = blocks;
-    run_together::<J, Site<Steps>, R, G>(rt, alloc, codes, limits, gate)
+    let world: World<J, Site<Steps>> = World::begin(alloc, codes, limits.turns)?;
+    let cluster = Cluster::new(Held::new(world), SLICE);
+    run_workers(rt, alloc, &cluster, limits.workers, gate)?;
+    let world = cluster.into_inner().into_world()?;
+    run_on(alloc, world, SLICE)
 }
 
 /// A run of one block by its codes, if they do all its acts.
@@ -82,21 +95,15 @@ pub fn play_alone<R: Threads + Wait + Sync, G: Gate>(
     alloc: Global,
     blocks: &[Block],
     codes: Codes,
-    turns: u32,
-    workers: u32,
+    limits: Limits,
     gate: &G,
 ) -> Result<Option<Played>, NoMemory>
     requires { AreTabled 0 blocks.now codes }
-    ensures { IfOk result (λ o. IfSome o (IsRun (map block_tree blocks.now) turns)) }
+    ensures { IfOk result (λ o. IfSome o (IsRun (map block_tree blocks.now) limits.turns)) }
 {
-    if blocks.len() != 1 || turns > TURN_LIMIT {
+    if blocks.len() != 1 || limits.turns > TURN_LIMIT {
         return Ok(None);
     }
-    let limits = Limits {
-        turns,
-        most: SLICE,
-        workers,
-    };
     match run_block(rt, alloc, blocks, codes, limits, gate) {
         Ok(ended) => Ok(Some(played(alloc, ended)?)),
         Err(Refused::Beyond) => Ok(None),
@@ -104,23 +111,21 @@ pub fn play_alone<R: Threads + Wait + Sync, G: Gate>(
     }
 }
 
-/// Runs blocks until no thread can go on: one block by its codes and by so many workers, if the codes do all its acts, and others by the plain
-/// machine.
+/// Runs blocks until no thread can go on: one block by its codes and by workers, if the codes do all its acts, and others by the plain machine.
 pub fn play_program<R: Threads + Wait + Sync, G: Gate>(
     rt: &R,
     alloc: Global,
     blocks: &[Block],
     codes: Codes,
-    turns: u32,
-    workers: u32,
+    limits: Limits,
     gate: &G,
 ) -> Result<Played, NoMemory>
     requires few { length blocks.now ≤ 16 }
     requires codes { AreTabled 0 blocks.now codes }
-    ensures { IfOk result (IsRun (map block_tree blocks.now) turns) }
+    ensures { IfOk result (IsRun (map block_tree blocks.now) limits.turns) }
 {
-    match play_alone(rt, alloc, blocks, codes, turns, workers, gate)? {
+    match play_alone(rt, alloc, blocks, codes, limits, gate)? {
         Some(played) => Ok(played),
-        None => play(alloc, blocks, turns),
+        None => play(alloc, blocks, limits.turns),
     }
 }

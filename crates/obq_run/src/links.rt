@@ -48,11 +48,7 @@ fn link_name(sites: &[SiteWord], site: u16) -> &[u8]
 }
 
 /// Appends the line of a row.
-fn write_link(
-    text: &mut Vec<u8>,
-    sites: &[SiteWord],
-    row: LinkCount,
-) -> Result<(), NoMemory>
+fn write_link(text: &mut Vec<u8>, sites: &[SiteWord], row: LinkCount) -> Result<(), NoMemory>
     ensures { OnOk result (text.new.items ≡ text.old.items ++ link_line (names_of sites.now) (link_as row)) }
 {
     let mut number = Buffer::new();

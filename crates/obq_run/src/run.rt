@@ -15,7 +15,7 @@ ghost use Rattle.obq_run.specs.Runs.{IsRefusalOf, IsRunOf, RefusalCompletes, Run
 ghost use Rattle.obq_words.specs.Words.{AreInForm, names_of, paths_of};
 
 use crate::accepted::{Accepted, accepted_sources};
-use crate::alone::play_program;
+use crate::alone::{Limits, play_program};
 use crate::ends::{Cause, End, status_for};
 use crate::finish::{refuse, write_whole};
 use crate::links::{link_rows, links_part};
@@ -35,10 +35,7 @@ use std::thread::Threads;
 /// How sources are run, and what is written besides what they wrote.
 #[derive(Clone, Copy, Debug, PartialEq, Eq)]
 pub struct RunOrder {
-    /// How many turns each thread has.
-    pub turns: u32,
-    /// How many threads of the host run a program of one source.
-    pub workers: u32,
+    pub limits: Limits,
     /// Whether the journal is written, too.
     pub journal: bool,
     /// Whether the table of links is.
@@ -62,22 +59,14 @@ fn run_program<R: Threads + Wait + Sync, G: Gate>(
 ) -> Result<Ran, NoMemory>
     requires few { length program.blocks.items ≤ 16 }
     requires codes { AreTabled 0 program.blocks.items program.codes }
-    ensures { IfOk result (IsRanSo (map block_tree program.blocks.items) order.turns order.links) }
+    ensures { IfOk result (IsRanSo (map block_tree program.blocks.items) order.limits.turns order.links) }
 {
     let Program {
         names: _,
         blocks,
         codes,
     } = program;
-    let played = play_program(
-        rt,
-        alloc,
-        &blocks,
-        codes,
-        order.turns,
-        order.workers,
-        gate,
-    )?;
+    let played = play_program(rt, alloc, &blocks, codes, order.limits, gate)?;
     let links = link_rows(alloc, order.links, &blocks, &played.journal)?;
     Ok(Ran { played, links })
 }
@@ -93,7 +82,7 @@ fn run_files<R: Threads + Wait + Sync, F: Files, G: Gate>(
 ) -> Result<Ran, Cause>
     requires { length sites.now ≤ 16 }
     ensures same { (n : List ℕ) → F.holds files.new n ≡ F.holds files.old n }
-    ensures ran { IfOk result (RunsOf (F.holds files.old) SOURCE_LIMIT (paths_of sites.now) order.turns order.links) }
+    ensures ran { IfOk result (RunsOf (F.holds files.old) SOURCE_LIMIT (paths_of sites.now) order.limits.turns order.links) }
     ensures only { IfErr result IsSourceRefusal }
     ensures read_fault { IfErr result (λ cause. IfReadFault cause (IsFaultAt (F.holds files.old) SOURCE_LIMIT (PathRose (F.faults files.old) (F.faults files.new)) (paths_of sites.now))) }
     ensures too_long { IfErr result (λ cause. IfTooLong cause (IsTooLongAt (F.holds files.old) SOURCE_LIMIT (paths_of sites.now))) }
@@ -114,7 +103,12 @@ fn run_files<R: Threads + Wait + Sync, F: Files, G: Gate>(
 }
 
 /// Appends the journal, where it is wanted.
-fn write_journal_part(text: &mut Vec<u8>, alloc: Global, wanted: bool, journal: &Journal) -> Result<(), NoMemory>
+fn write_journal_part(
+    text: &mut Vec<u8>,
+    alloc: Global,
+    wanted: bool,
+    journal: &Journal,
+) -> Result<(), NoMemory>
     ensures { OnOk result (text.new.items ≡ text.old.items ++ journal_part wanted (shown journal.now)) }
 {
     if !wanted {
@@ -195,9 +189,9 @@ pub fn run_sites<R: Threads + Wait + Sync, F: Files, O: Sink, E: Sink, G: Gate>(
     ensures write_fault { OnWriteFault result.cause (Rose (O.faults out.old) (O.faults out.new)) }
 
     // The journal is a history of the sources, and what is written is its output.
-    ensures ran { OnRan result.cause ((text : List ℕ) × IsRunOf (F.holds files.old) SOURCE_LIMIT (names_of sites.now) (paths_of sites.now) order.turns order.links order.journal (shown result.journal) text result.status
+    ensures ran { OnRan result.cause ((text : List ℕ) × IsRunOf (F.holds files.old) SOURCE_LIMIT (names_of sites.now) (paths_of sites.now) order.limits.turns order.links order.journal (shown result.journal) text result.status
         × Appends (O.written out.old) (O.written out.new) text) }
-    ensures part { OnWriteFault result.cause ((text : List ℕ) × (ended : ℕ) × IsRunOf (F.holds files.old) SOURCE_LIMIT (names_of sites.now) (paths_of sites.now) order.turns order.links order.journal (shown result.journal) text ended
+    ensures part { OnWriteFault result.cause ((text : List ℕ) × (ended : ℕ) × IsRunOf (F.holds files.old) SOURCE_LIMIT (names_of sites.now) (paths_of sites.now) order.limits.turns order.links order.journal (shown result.journal) text ended
         × GetsPrefix (O.written out.old) (O.written out.new) text) }
     ensures status { HasStatus result.cause result.status }
     ensures completes { RunCompletes (F.holds files.old) SOURCE_LIMIT (paths_of sites.now) (PathRose (F.faults files.old) (F.faults files.new)) (Rose (O.faults out.old) (O.faults out.new)) result.cause }

@@ -10,14 +10,15 @@ ghost use Rattle.obq_model.specs.Output.{check_text};
 ghost use Rattle.obq_run.specs.Ends.{GetsLine, HasStatus, IfReadFault, IfRefused, IfTooLong, IsEndOf, IsRefusal, MatchWords, OnChecked, OnRan, OnReplayed, OnWriteFault, line_of};
 ghost use Rattle.obq_run.specs.Held.{IsFaultAt, IsTooLongAt, PathRose};
 ghost use Rattle.obq_run.specs.Runs.{CheckCompletes, IsCheckOf, IsRefusalOf, IsRunOf, RefusalCompletes, ReplayCompletes, ReplayRefusal, ReplaysTo, RunCompletes, TooLongCompletes, WithJournal};
-ghost use Rattle.obq_words.specs.CommandLine.{TooManyAt, UsageAt, bad_word, is_checking, is_replaying, journal_path, turns_of, wants_journal};
+ghost use Rattle.obq_words.specs.CommandLine.{TooManyAt, UsageAt, bad_word, is_checking, is_replaying, journal_path, turns_of, wants_journal, wants_links};
 ghost use Rattle.obq_words.specs.Words.{bytes_of, given_names, given_paths};
 
+use crate::alone::Limits;
 use crate::check::check_sources;
 use crate::ends::{Cause, End};
 use crate::finish::refuse;
 use crate::replay::replay_run;
-use crate::run::run_sites;
+use crate::run::{RunOrder, run_sites};
 use obq_base::limits::SOURCE_LIMIT;
 use obq_io::{Files, Gate, Sink};
 use obq_words::{Order, WordsRefused, read_words};
@@ -29,13 +30,13 @@ use std::thread::Threads;
 /// that they are accepted, to `out`, or tells on `err` why it didn't. `docs/LANGUAGE.md` has the
 /// words, the texts and the statuses.
 pub fn obliq<R: Threads + Wait + Sync, F: Files, O: Sink, E: Sink, G: Gate>(
-    _rt: &R,
+    rt: &R,
     alloc: Global,
     words: &[String],
     files: &mut F,
     out: &mut O,
     err: &mut E,
-    _gate: &G,
+    gate: &G,
 ) -> End
     // Words that can't stand are always refused; each other cause comes only where it may.
     ensures usage { MatchWords result.cause (λ k. bad_word (bytes_of words.now) ≡ Some (UsageAt k)) (λ k. bad_word (bytes_of words.now) ≡ Some (TooManyAt k)) (bad_word (bytes_of words.now) ≡ None) }
@@ -50,10 +51,10 @@ pub fn obliq<R: Threads + Wait + Sync, F: Files, O: Sink, E: Sink, G: Gate>(
     // The journal of a run is a history of its sources, and what is written is the output of that
     // history.
     ensures ran { OnRan result.cause ((text : List ℕ)
-        × IsRunOf (F.holds files.old) SOURCE_LIMIT (given_names (bytes_of words.now)) (given_paths (bytes_of words.now)) (turns_of (bytes_of words.now)) (wants_journal (bytes_of words.now)) (shown result.journal) text result.status
+        × IsRunOf (F.holds files.old) SOURCE_LIMIT (given_names (bytes_of words.now)) (given_paths (bytes_of words.now)) (turns_of (bytes_of words.now)) (wants_links (bytes_of words.now)) (wants_journal (bytes_of words.now)) (shown result.journal) text result.status
         × Appends (O.written out.old) (O.written out.new) text) }
     ensures part { is_checking (bytes_of words.now) ≡ false → is_replaying (bytes_of words.now) ≡ false → OnWriteFault result.cause ((text : List ℕ)
-        × (ended : ℕ) × IsRunOf (F.holds files.old) SOURCE_LIMIT (given_names (bytes_of words.now)) (given_paths (bytes_of words.now)) (turns_of (bytes_of words.now)) (wants_journal (bytes_of words.now)) (shown result.journal) text ended
+        × (ended : ℕ) × IsRunOf (F.holds files.old) SOURCE_LIMIT (given_names (bytes_of words.now)) (given_paths (bytes_of words.now)) (turns_of (bytes_of words.now)) (wants_links (bytes_of words.now)) (wants_journal (bytes_of words.now)) (shown result.journal) text ended
         × GetsPrefix (O.written out.old) (O.written out.new) text) }
 
     // What is checked is accepted, and that is what is written.
@@ -103,12 +104,20 @@ pub fn obliq<R: Threads + Wait + Sync, F: Files, O: Sink, E: Sink, G: Gate>(
         Ok(
             Order::Run {
                 turns,
-                workers: _,
+                workers,
                 journal,
-                links: _,
+                links,
                 sites,
             },
-        ) => run_sites(alloc, &sites, turns, journal, files, out, err),
+        ) => {
+            let limits = Limits { turns, workers };
+            let order = RunOrder {
+                limits,
+                journal,
+                links,
+            };
+            run_sites(rt, alloc, &sites, order, files, out, err, gate)
+        }
         Ok(Order::Check { sites }) => check_sources(alloc, &sites, files, out, err),
         Ok(Order::Replay { from, sites }) => {
             replay_run(alloc, from.as_str(), &sites, files, out, err)

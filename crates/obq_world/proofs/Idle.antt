@@ -4,15 +4,16 @@ use Rattle.std.proofs.Common.{ap, arith, get_or, inl, inr, refl, subst, sym, ◌
 use Rattle.std.proofs.lemmas.Bool.Decides.{nat_tests}
 use Rattle.std.proofs.lemmas.Option.{get_or_from_slice_get, slice_get-get_or}
 use Rattle.obq_base.specs.Tree.{BlockTree}
+use Rattle.obq_model.specs.Cells.{import_row}
 use Rattle.obq_model.specs.Step.{Operation, Self, self_at}
 use Rattle.obq_model.proofs.Slices.{get_below}
-use Rattle.obq_stands.specs.Over.{HasStopped, IsStuck, JoinWaits, OnCellWaits, RetakeWaits, Waits}
+use Rattle.obq_stands.specs.Over.{HasStopped, ImportWaits, IsStuck, JoinWaits, OnCellWaits, RetakeWaits, Waits}
 use Rattle.obq_stands.specs.Sites.{Rest, Site, assembled}
-use Rattle.obq_stands.specs.World.{Born, Ending, Parked, Ref, Slot}
+use Rattle.obq_stands.specs.World.{Born, Ending, Ends, Idle, Parked, Ref, Slot}
 use Rattle.obq_stands.proofs.Next.{bounds_known}
 use Rattle.obq_stands.proofs.Over.{idle_replays_over}
 use Rattle.obq_stands.proofs.Update.{same_or}
-use Rattle.obq_world.specs.Acts.{AgainWaits, AtCellWaits, JoiningWaits, WaitsHere, WaitsIn}
+use Rattle.obq_world.specs.Acts.{AgainWaits, AtCellWaits, ImportingWaits, JoiningWaits, WaitsHere, WaitsIn}
 use Rattle.obq_world.specs.Calls.{AllIdle, AllStopped, IsStopped, NobodyClaims}
 use Rattle.obq_world.specs.Meaning.{Meaning}
 use Rattle.obq_world.specs.State.{EndsOver, IsAlone, SiteReads, State, WasOver, WorldStands, used_in}
@@ -24,9 +25,10 @@ at_home sites r x p h = ap (λ s. (sites s).heap r) p ∙ h
 
 -- an operation that waits at the site waits in the World of all sites
 waits_of : {C W S : Type 0} (m : Meaning C W S) (sites : ℕ → Site) (rest : Rest) (site : S) (slots : List ThreadSlot) (t : ℕ) (z : Self Ref) (op : Operation Ref)
-    → SiteReads m (sites 0) site slots → IsAlone sites rest → WaitsIn m site (sites 0).heap t z op → Waits (assembled sites rest).memory (assembled sites rest).ended t z op
+    → SiteReads m (sites 0) rest.names site slots → IsAlone sites rest → WaitsIn m site (sites 0).heap t z op → Waits (assembled sites rest).memory (assembled sites rest).ended t z op
 waits_of m sites rest site slots t z op reads alone (AtCellWaits _ r x home of here row) = OnCellWaits op r x of (at_home sites r x home here) row
 waits_of m sites rest site slots t z op reads alone (AgainWaits o c guard x y home1 home2 here there row) = RetakeWaits o c guard x y (at_home sites o x home1 here) (at_home sites c y home2 there) row
+waits_of m sites rest site slots t z op reads alone (ImportingWaits x engine none_kept) = ImportWaits x engine (ap (import_row Ends Idle engine) (none_kept rest.names reads.names))
 waits_of m sites rest site slots t z op reads alone (JoiningWaits v none_kept) = JoinWaits v (λ b. none b (same_or b 0))
   where
     none_by : (o : Option Ending) → m.ended site v o → o ≡ None

@@ -12,19 +12,20 @@ use Rattle.obq_base.specs.declared.limits.TheConstants.{THREAD_LIMIT, TURN_LIMIT
 use Rattle.obq_laws.specs.Determinism.{entry_of}
 use Rattle.obq_model.specs.Config.{act}
 use Rattle.obq_model.specs.Exceptions.{fork_limit}
-use Rattle.obq_model.specs.Step.{no_self, plug, self_at}
-use Rattle.obq_model.specs.Terms.{Const, Term, Thread}
+use Rattle.obq_model.specs.Step.{Export, Import, no_self, plug, self_at}
+use Rattle.obq_model.specs.Store.{export}
+use Rattle.obq_model.specs.Terms.{Bytes, Const, Okay, Term, Thread, Value}
 use Rattle.obq_model.proofs.Slices.{get_below, push_length, set_length, set_other, set_same}
 use Rattle.obq_stands.specs.Events.{Step, calling, first_cell, first_running, first_slot, moved}
-use Rattle.obq_stands.specs.Sites.{Did, Rest, Site, assembled, runs_at}
+use Rattle.obq_stands.specs.Sites.{Did, ExportedHere, ImportedHere, Rest, Site, assembled, runs_at}
 use Rattle.obq_stands.specs.Stands.{after_steps}
 use Rattle.obq_stands.specs.World.{Ending, Heap, Parked, Ref, Slot, ending_term, with_at}
-use Rattle.obq_stands.proofs.Assembled.{site_acts, site_ends, site_fork_refused, site_forks, site_joins, site_steps}
+use Rattle.obq_stands.proofs.Assembled.{site_acts, site_ends, site_fork_refused, site_forks, site_joins, site_names, site_steps}
 use Rattle.obq_stands.proofs.Kept.{step_keeps}
 use Rattle.obq_stands.proofs.Opening.{begins_by}
 use Rattle.obq_stands.proofs.Stays.{writers_begin, writers_kept}
 use Rattle.obq_stands.proofs.Update.{same_or, test_no, test_same, with_at_other, with_at_same}
-use Rattle.obq_world.specs.Acts.{BeginsWith, DidAct, DidIn, DoesRow, EndsHere, ForksOff, HasTooMany, JoinsWith, Leaves, MakesCell, Rewinds, cells_made, same_endings}
+use Rattle.obq_world.specs.Acts.{BeginsWith, DidAct, DidIn, DoesRow, EndsHere, Exports, ForksOff, HasTooMany, Imports, JoinsWith, Leaves, MakesCell, Rewinds, cells_made, same_endings, same_names}
 use Rattle.obq_world.specs.Entries.{new_slot, slots_made, spent}
 use Rattle.obq_world.specs.Meaning.{Meaning, Opens, Runs}
 use Rattle.obq_world.specs.State.{SegmentReads, SiteReads, State, ThreadReads, ThreadsRead, WorldStands, used_in}
@@ -72,7 +73,7 @@ begins m (tree ∷ []) turns w site one limit opens b =
       sites = first_site o.0;
       rest = first_rest;
       stands = begins_by (tree ∷ []) turns (o.0 ∷ []) (o.2, tt);
-      reads = record { heap = b.heap; threads = reads_by m (new_slot ∷ []) (λ t. if t == 0 then Some w else None) (m.windows site) (first_running (o.0 ∷ []) 0) (first_running (o.0 ∷ []) 0) b.windows (λ u. refl) (first_threads m o.0 w o.1); ended = b.ended };
+      reads = record { heap = b.heap; threads = reads_by m (new_slot ∷ []) (λ t. if t == 0 then Some w else None) (m.windows site) (first_running (o.0 ∷ []) 0) (first_running (o.0 ∷ []) 0) b.windows (λ u. refl) (first_threads m o.0 w o.1); ended = b.ended; names = b.names };
       alone = record { runs = elsewhere o.0; ends = λ s t ne. refl; waits = λ s t. refl; lines = λ a b. refl };
       writers = writers_begin (o.0 ∷ []);
       one = one;
@@ -94,14 +95,14 @@ abbrev with_site : {S : Type 0} → State S → S → List ThreadSlot → ℕ �
 with_site w site slots cells entries = record { site = site; slots = slots; cells = cells; journal = w.journal ++ entries }
 
 -- by an event of the World of all sites
-wraps : {C W S : Type 0} (m : Meaning C W S) (blocks : List BlockTree) (turns : ℕ) (w : State S) (inv : WorldStands m blocks turns w) (z : Site) (site : S) (slots : List ThreadSlot) (count threads cells : ℕ) (entries : List Entry)
-    → Step turns (assembled inv.sites inv.rest) (assembled (with_at inv.sites 0 z) (record inv.rest { count = count; threads = threads; journal = inv.rest.journal ++ entries }))
-    → SiteReads m z site slots → z.waiting ≡ (inv.sites 0).waiting → count ≡ cells → m.size site ≤ cells → threads ≡ length slots → All (λ x. x.used ≤ turns) slots
+wraps : {C W S : Type 0} (m : Meaning C W S) (blocks : List BlockTree) (turns : ℕ) (w : State S) (inv : WorldStands m blocks turns w) (z : Site) (names : List (Bytes × Value Ref)) (site : S) (slots : List ThreadSlot) (count threads cells : ℕ) (entries : List Entry)
+    → Step turns (assembled inv.sites inv.rest) (assembled (with_at inv.sites 0 z) (record inv.rest { count = count; names = names; threads = threads; journal = inv.rest.journal ++ entries }))
+    → SiteReads m z names site slots → z.waiting ≡ (inv.sites 0).waiting → count ≡ cells → m.size site ≤ cells → threads ≡ length slots → All (λ x. x.used ≤ turns) slots
     → WorldStands m blocks turns (with_site w site slots cells entries)
-wraps m blocks turns w inv z site slots count threads cells entries step reads waiting counted size there within =
+wraps m blocks turns w inv z names site slots count threads cells entries step reads waiting counted size there within =
     record {
       sites = with_at inv.sites 0 z;
-      rest = record inv.rest { count = count; threads = threads; journal = inv.rest.journal ++ entries };
+      rest = record inv.rest { count = count; names = names; threads = threads; journal = inv.rest.journal ++ entries };
       stands = step_keeps blocks turns (assembled inv.sites inv.rest) _ inv.stands step;
       reads = reads;
       alone =
@@ -160,12 +161,13 @@ steps_keep m blocks turns w t n x start window site inv here runs at fits r =
     let used : a.slot.used ≡ x.used = a.used in
     let segment : SegmentReads m (x.used + n) window slot2 = record { reads = a.reads; same = ap (λ k. k + n) used; bottom = a.bottom } in
     let step = (site_steps turns i.sites i.rest 0 t n a.slot a.term a.here (omega (arith, used, fits)) a.steps).0 in
-    wraps m blocks turns w i z site (slice_set w.slots t (spent x n)) i.rest.count i.rest.threads w.cells (entry_of t n None ∷ []) step
+    wraps m blocks turns w i z i.rest.names site (slice_set w.slots t (spent x n)) i.rest.count i.rest.threads w.cells (entry_of t n None ∷ []) step
     (record {
       heap = r.heap (i.sites 0).heap i.reads.heap;
       threads = reads_by m (slice_set w.slots t (spent x n)) (with_at (m.windows w.site) t (Some window)) (m.windows site) (with_at (i.sites 0).running t (Some slot2)) z.running r.windows (λ u. refl)
           (moves m w.slots (m.windows w.site) (i.sites 0).running t (spent x n) (Some window) (Some slot2) i.reads.threads a.lt segment);
       ended = λ v. r.ended v ((i.sites 0).ended v) (i.reads.ended v);
+      names = r.names i.rest.names i.reads.names;
     })
     refl i.cells (subst (λ k. k ≤ w.cells) (sym r.size) i.size) (i.threads ∙ sym (set_length w.slots t (spent x n))) (still_within turns w.slots t (spent x n) fits i.within)
 
@@ -190,6 +192,7 @@ quiet_keeps m blocks turns w t x start window site inv here runs at r =
             threads = reads_by m (slice_set w.slots t (spent x 0)) (with_at (m.windows w.site) t (Some window)) (m.windows site) (with_at (i.sites 0).running t (Some a.slot)) (i.sites 0).running r.windows (λ u. own_again (i.sites 0).running t a.slot a.here u (same_or u t))
                 (moves m w.slots (m.windows w.site) (i.sites 0).running t (spent x 0) (Some window) (Some a.slot) i.reads.threads a.lt segment);
             ended = λ v. r.ended v ((i.sites 0).ended v) (i.reads.ended v);
+            names = r.names i.rest.names i.reads.names;
           };
       alone = i.alone;
       writers = i.writers;
@@ -216,13 +219,13 @@ no_more : {C W S : Type 0} (m : Meaning C W S) (blocks : List BlockTree) (turns 
 no_more m blocks turns w site slots cells es h = subst (λ l. WorldStands m blocks turns (with_site w site l cells es)) (sym (append-nil slots)) h
 
 -- an act by which the thread goes on with another term
-goes_on : {C W S : Type 0} (m : Meaning C W S) (blocks : List BlockTree) (turns : ℕ) (w : State S) (t n : ℕ) (x : ThreadSlot) (window w2 : W) (a : Ahead m blocks turns w t n x window) (h : Heap) (focus : Term Ref) (count cells : ℕ) (e : Entry) (site : S)
+goes_on : {C W S : Type 0} (m : Meaning C W S) (blocks : List BlockTree) (turns : ℕ) (w : State S) (t n : ℕ) (x : ThreadSlot) (window w2 : W) (a : Ahead m blocks turns w t n x window) (h : Heap) (names : List (Bytes × Value Ref)) (named : List (Bytes × Value Ref) → List (Bytes × Value Ref)) (focus : Term Ref) (count cells : ℕ) (e : Entry) (site : S)
     → x.used + n < turns
     → Step turns (assembled a.inv.sites a.inv.rest)
-    (assembled (with_at a.inv.sites 0 (record (a.inv.sites 0) { heap = h; running = with_at (a.inv.sites 0).running t (Some (moved a.slot (n + 1) focus)) })) (record a.inv.rest { count = count; journal = a.inv.rest.journal ++ e ∷ [] }))
-    → m.reads w2 a.slot.segment.depth a.slot.segment.self focus → Leaves m w.site h (with_at (m.windows w.site) t (Some w2)) same_endings site → count ≡ cells → m.size site ≤ cells
+    (assembled (with_at a.inv.sites 0 (record (a.inv.sites 0) { heap = h; running = with_at (a.inv.sites 0).running t (Some (moved a.slot (n + 1) focus)) })) (record a.inv.rest { count = count; names = names; journal = a.inv.rest.journal ++ e ∷ [] }))
+    → m.reads w2 a.slot.segment.depth a.slot.segment.self focus → Leaves m w.site h (with_at (m.windows w.site) t (Some w2)) same_endings named site → named a.inv.rest.names ≡ names → count ≡ cells → m.size site ≤ cells
     → WorldStands m blocks turns (with_site w site (slice_set w.slots t (spent x (n + 1)) ++ []) cells (e ∷ []))
-goes_on m blocks turns w t n x window w2 a h focus count cells e site fits step reads l counted size =
+goes_on m blocks turns w t n x window w2 a h names named focus count cells e site fits step reads l same counted size =
     let i = a.inv in
     let y : ThreadSlot = spent x (n + 1) in
     let slot2 : Slot = moved a.slot (n + 1) focus in
@@ -230,12 +233,13 @@ goes_on m blocks turns w t n x window w2 a h focus count cells e site fits step 
     let used : a.slot.used ≡ x.used = a.used in
     let segment : SegmentReads m (x.used + (n + 1)) w2 slot2 = record { reads = reads; same = ap (λ k. k + (n + 1)) used; bottom = a.bottom } in
     no_more m blocks turns w site (slice_set w.slots t y) cells (e ∷ [])
-    (wraps m blocks turns w i z site (slice_set w.slots t y) count i.rest.threads cells (e ∷ []) step
+    (wraps m blocks turns w i z names site (slice_set w.slots t y) count i.rest.threads cells (e ∷ []) step
     (record {
       heap = l.heap;
       threads = reads_by m (slice_set w.slots t y) (with_at (m.windows w.site) t (Some w2)) (m.windows site) (with_at (i.sites 0).running t (Some slot2)) z.running l.windows (λ u. refl)
           (moves m w.slots (m.windows w.site) (i.sites 0).running t y (Some w2) (Some slot2) i.reads.threads a.lt segment);
       ended = λ v. l.ended v ((i.sites 0).ended v) (i.reads.ended v);
+      names = subst (m.names site) same (l.names i.rest.names i.reads.names);
     })
     refl counted size (i.threads ∙ sym (set_length w.slots t y)) (still_within turns w.slots t y (omega (arith, fits)) i.within))
 
@@ -259,26 +263,26 @@ did m blocks turns w t n x window a b made site fits size (DoesRow op hs kind lo
     let i = a.inv in
     let used : a.slot.used ≡ x.used = a.used in
     let does2 = subst (λ c. Did 0 (i.sites 0).heap c t (self_at a.slot.segment.self hs) op kind loc h2 c focus) (sym i.cells) does in
-    goes_on m blocks turns w t n x window w2 a h2 (plug hs focus) i.rest.count w.cells (entry_of t n (Some (act kind loc))) site fits
-    (site_acts turns i.sites i.rest 0 t n a.slot a.term op hs kind loc h2 i.rest.count focus a.here (omega (arith, used, fits)) a.steps needs does2).0 reads l i.cells size
+    goes_on m blocks turns w t n x window w2 a h2 i.rest.names same_names (plug hs focus) i.rest.count w.cells (entry_of t n (Some (act kind loc))) site fits
+    (site_acts turns i.sites i.rest 0 t n a.slot a.term op hs kind loc h2 i.rest.count focus a.here (omega (arith, used, fits)) a.steps needs does2).0 reads l refl i.cells size
 did m blocks turns w t n x window a b made site fits size (MakesCell op hs kind loc h2 focus w2 _ needs does reads l) =
     let i = a.inv in
     let used : a.slot.used ≡ x.used = a.used in
     let does2 = subst (λ c. Did 0 (i.sites 0).heap c t (self_at a.slot.segment.self hs) op kind loc h2 (suc c) focus) (sym i.cells) does in
-    goes_on m blocks turns w t n x window w2 a h2 (plug hs focus) (suc i.rest.count) (suc w.cells) (entry_of t n (Some (act kind loc))) site fits
-    (site_acts turns i.sites i.rest 0 t n a.slot a.term op hs kind loc h2 (suc i.rest.count) focus a.here (omega (arith, used, fits)) a.steps needs does2).0 reads l (ap suc i.cells) size
+    goes_on m blocks turns w t n x window w2 a h2 i.rest.names same_names (plug hs focus) (suc i.rest.count) (suc w.cells) (entry_of t n (Some (act kind loc))) site fits
+    (site_acts turns i.sites i.rest 0 t n a.slot a.term op hs kind loc h2 (suc i.rest.count) focus a.here (omega (arith, used, fits)) a.steps needs does2).0 reads l refl (ap suc i.cells) size
 did m blocks turns w t n x window a b made site fits size (HasTooMany v hs w2 _ needs many reads l) =
     let i = a.inv in
     let used : a.slot.used ≡ x.used = a.used in
-    goes_on m blocks turns w t n x window w2 a (i.sites 0).heap (plug hs fork_limit) i.rest.count w.cells (entry_of t n (Some (act ActKind.Fork THREAD_LIMIT))) site fits
-    (site_fork_refused turns i.sites i.rest 0 t n a.slot a.term v hs a.here (omega (arith, used, fits)) a.steps needs (ap (λ k. nat_le THREAD_LIMIT k) i.threads ∙ many)).0 reads l i.cells size
+    goes_on m blocks turns w t n x window w2 a (i.sites 0).heap i.rest.names same_names (plug hs fork_limit) i.rest.count w.cells (entry_of t n (Some (act ActKind.Fork THREAD_LIMIT))) site fits
+    (site_fork_refused turns i.sites i.rest 0 t n a.slot a.term v hs a.here (omega (arith, used, fits)) a.steps needs (ap (λ k. nat_le THREAD_LIMIT k) i.threads ∙ many)).0 reads l refl i.cells size
 did m blocks turns w t n x window a b made site fits size (JoinsWith v hs w2 _ needs some reads l) =
     let i = a.inv in
     let used : a.slot.used ≡ x.used = a.used in
     let kept = kept_ending m w.site v ((i.sites 0).ended v) (i.reads.ended v) some in
     let here : m.ended w.site v (Some kept.0) = subst (λ o. m.ended w.site v o) kept.1 (i.reads.ended v) in
-    goes_on m blocks turns w t n x window w2 a (i.sites 0).heap (plug hs (ending_term kept.0)) i.rest.count w.cells (entry_of t n (Some (act ActKind.Join v))) site fits
-    (site_joins turns i.sites i.rest 0 t n v 0 kept.0 a.slot a.term hs a.here (omega (arith, used, fits)) a.steps needs kept.1).0 (reads kept.0 here) l i.cells size
+    goes_on m blocks turns w t n x window w2 a (i.sites 0).heap i.rest.names same_names (plug hs (ending_term kept.0)) i.rest.count w.cells (entry_of t n (Some (act ActKind.Join v))) site fits
+    (site_joins turns i.sites i.rest 0 t n v 0 kept.0 a.slot a.term hs a.here (omega (arith, used, fits)) a.steps needs kept.1).0 (reads kept.0 here) l refl i.cells size
 did m blocks turns w t n x window a b made site fits size (EndsHere e _ over l) =
     let i = a.inv in
     let y : ThreadSlot = spent x (n + 1) in
@@ -286,13 +290,14 @@ did m blocks turns w t n x window a b made site fits size (EndsHere e _ over l) 
     let z : Site = record (i.sites 0) { running = with_at (i.sites 0).running t None; ended = with_at (i.sites 0).ended t (Some e) } in
     let entry : Entry = entry_of t n (Some (act ActKind.End t)) in
     no_more m blocks turns w site (slice_set w.slots t y) w.cells (entry ∷ [])
-    (wraps m blocks turns w i z site (slice_set w.slots t y) i.rest.count i.rest.threads w.cells (entry ∷ [])
+    (wraps m blocks turns w i z i.rest.names site (slice_set w.slots t y) i.rest.count i.rest.threads w.cells (entry ∷ [])
     (site_ends turns i.sites i.rest 0 t n a.slot a.term e a.here a.bottom (omega (arith, used, fits)) a.steps over).0
     (record {
       heap = l.heap;
       threads = reads_by m (slice_set w.slots t y) (with_at (m.windows w.site) t None) (m.windows site) (with_at (i.sites 0).running t None) z.running l.windows (λ u. refl)
           (moves m w.slots (m.windows w.site) (i.sites 0).running t y None None i.reads.threads a.lt tt);
       ended = λ v. l.ended v ((i.sites 0).ended v) (i.reads.ended v);
+      names = l.names i.rest.names i.reads.names;
     })
     refl i.cells size (i.threads ∙ sym (set_length w.slots t y)) (still_within turns w.slots t y (omega (arith, fits)) i.within))
 did {W = W} m blocks turns w t n x window a b made site fits size (ForksOff v hs w2 begun _ needs room reads begins l) =
@@ -315,9 +320,20 @@ did {W = W} m blocks turns w t n x window a b made site fits size (ForksOff v hs
     let law = (site_forks turns i.sites i.rest 0 t n a.slot a.term v hs a.here (omega (arith, used, fits)) a.steps needs (ap (λ j. nat_le THREAD_LIMIT j) i.threads ∙ room)).0 in
     let law2 = subst (λ j. Step turns (assembled i.sites i.rest) (assembled (with_at i.sites 0 (record (i.sites 0) { running = with_at (with_at (i.sites 0).running t (Some (moved a.slot (n + 1) (plug hs (Const (Thread j)))))) j (Some (calling v)) }))
     (record i.rest { threads = suc j; journal = i.rest.journal ++ entry_of t n (Some (act ActKind.Fork j)) ∷ [] }))) i.threads law in
-    wraps m blocks turns w i z site (slots2 ++ new_slot ∷ []) i.rest.count (suc k) w.cells (e ∷ []) law2
-    (record { heap = l.heap; threads = reads_by m (slots2 ++ new_slot ∷ []) (with_at ws1 k (Some begun)) (m.windows site) (with_at rs1 k (Some (calling v))) z.running l.windows (λ u. refl) both; ended = λ u. l.ended u ((i.sites 0).ended u) (i.reads.ended u) })
+    wraps m blocks turns w i z i.rest.names site (slots2 ++ new_slot ∷ []) i.rest.count (suc k) w.cells (e ∷ []) law2
+    (record { heap = l.heap; threads = reads_by m (slots2 ++ new_slot ∷ []) (with_at ws1 k (Some begun)) (m.windows site) (with_at rs1 k (Some (calling v))) z.running l.windows (λ u. refl) both; ended = λ u. l.ended u ((i.sites 0).ended u) (i.reads.ended u); names = l.names i.rest.names i.reads.names })
     refl i.cells size (ap suc (sym long) ∙ sym (push_length slots2 new_slot)) (within_one turns slots2 (still_within turns w.slots t y (omega (arith, fits)) i.within))
+did m blocks turns w t n x window a b made site fits size (Exports name v hs w2 _ needs reads l) =
+    let i = a.inv in
+    let used : a.slot.used ≡ x.used = a.used in
+    goes_on m blocks turns w t n x window w2 a (i.sites 0).heap (export name v i.rest.names) (export name v) (plug hs (Const Okay)) i.rest.count w.cells (entry_of t n (Some (act ActKind.Export 0))) site fits
+    (site_names turns i.sites i.rest 0 t n a.slot a.term (Export name v) hs ActKind.Export 0 (export name v i.rest.names) (Const Okay) a.here (omega (arith, used, fits)) a.steps needs (ExportedHere name v)).0 reads l refl i.cells size
+did m blocks turns w t n x window a b made site fits size (Imports name engine hs w2 _ needs reads l) =
+    let i = a.inv in
+    let used : a.slot.used ≡ x.used = a.used in
+    let found = reads i.rest.names i.reads.names in
+    goes_on m blocks turns w t n x window w2 a (i.sites 0).heap i.rest.names same_names (plug hs found.0) i.rest.count w.cells (entry_of t n (Some (act ActKind.Import 0))) site fits
+    (site_names turns i.sites i.rest 0 t n a.slot a.term (Import name engine) hs ActKind.Import 0 i.rest.names found.0 a.here (omega (arith, used, fits)) a.steps needs (ImportedHere name engine ActKind.Import found.0 found.1)).0 found.2 l refl i.cells size
 
 -- n pure steps and an act
 pub acts_keep : {C W S : Type 0} (m : Meaning C W S) (blocks : List BlockTree) (turns : ℕ) (w : State S) (t n : ℕ) (x : ThreadSlot) (start window : W) (b : Act) (made : Made) (site : S)
@@ -338,7 +354,7 @@ claims_keep m blocks turns w k x y inv lt is same =
       sites = inv.sites;
       rest = inv.rest;
       stands = inv.stands;
-      reads = record { heap = inv.reads.heap; threads = λ t. subst (λ n. ThreadReads m n (m.windows w.site t) ((inv.sites 0).running t)) (kept t at (same_or t k)) (inv.reads.threads t); ended = inv.reads.ended };
+      reads = record { heap = inv.reads.heap; threads = λ t. subst (λ n. ThreadReads m n (m.windows w.site t) ((inv.sites 0).running t)) (kept t at (same_or t k)) (inv.reads.threads t); ended = inv.reads.ended; names = inv.reads.names };
       alone = inv.alone;
       writers = inv.writers;
       one = inv.one;

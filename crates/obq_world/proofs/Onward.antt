@@ -10,10 +10,10 @@ use Rattle.obq_base.specs.declared.acts.Entry.{Entry}
 use Rattle.obq_laws.specs.Determinism.{entry_of}
 use Rattle.obq_model.specs.Replay.{TakeTurns, act_turns}
 use Rattle.obq_model.specs.Step.{Self}
-use Rattle.obq_model.specs.Terms.{Term}
+use Rattle.obq_model.specs.Terms.{Bytes, Term, Value}
 use Rattle.obq_stands.specs.World.{Ending, Heap, Ref, with_at}
 use Rattle.obq_stands.proofs.Update.{same_or, with_at_other, with_at_same}
-use Rattle.obq_world.specs.Acts.{CanAct, DidAct, DidIn, DoesRow, EndsHere, ForksOff, HasTooMany, IsDue, IsRunOn, JoinsWith, Leaves, MakesCell, Rewinds, cells_made}
+use Rattle.obq_world.specs.Acts.{CanAct, DidAct, DidIn, DoesRow, EndsHere, Exports, ForksOff, HasTooMany, Imports, IsDue, IsRunOn, JoinsWith, Leaves, MakesCell, Rewinds, cells_made}
 use Rattle.obq_world.specs.Entries.{TakesMore, act_in, entries_of, made_in, slots_made, spent, stops_at_act, turns_of}
 use Rattle.obq_world.specs.Going.{AskedCases, ComesOf, GoesOn, IsNoted, MayGo}
 use Rattle.obq_world.specs.Meaning.{IsRunning, Meaning, Runs, StopsAs}
@@ -58,7 +58,7 @@ own f t x e u = by (same_or u t)
 -- ---- sites in which only thread t's window is another
 
 pub stays : {C W S : Type 0} (m : Meaning C W S) (s : S) (t : ℕ) (w : W) → m.windows s t ≡ Some w → Rewinds m s t w s
-stays m s t w here = record { heap = λ h k. k; size = refl; windows = own (m.windows s) t w here; ended = λ v o k. k }
+stays m s t w here = record { heap = λ h k. k; size = refl; windows = own (m.windows s) t w here; ended = λ v o k. k; names = λ es k. k }
 
 window_of : {C W S : Type 0} (m : Meaning C W S) (old : S) (t : ℕ) (v : W) (mid : S) → Rewinds m old t v mid → m.windows mid t ≡ Some v
 window_of m old t v mid r = r.windows t ∙ with_at_same (m.windows old) t (Some v)
@@ -69,29 +69,34 @@ twice m old t v w mid new a b = record {
   size = b.size ∙ a.size;
   windows = λ u. b.windows u ∙ again (m.windows old) (m.windows mid) t (Some v) (Some w) a.windows u;
   ended = λ u o k. b.ended u o (a.ended u o k);
+  names = λ es k. b.names es (a.names es k);
 }
 
-leaves_by : {C W S : Type 0} (m : Meaning C W S) (old mid : S) (h : Heap) (ws ws2 : ℕ → Option W) (endings : ℕ → Option Ending → Option Ending) (new : S)
-    → ((v : ℕ) (o : Option Ending) → m.ended old v o → m.ended mid v o) → ((u : ℕ) → ws u ≡ ws2 u) → Leaves m mid h ws endings new → Leaves m old h ws2 endings new
-leaves_by m old mid h ws ws2 endings new kept same l = record { heap = l.heap; windows = λ u. l.windows u ∙ same u; ended = λ v o k. l.ended v o (kept v o k) }
+leaves_by : {C W S : Type 0} (m : Meaning C W S) (old mid : S) (h : Heap) (ws ws2 : ℕ → Option W) (endings : ℕ → Option Ending → Option Ending) (named : List (Bytes × Value Ref) → List (Bytes × Value Ref)) (new : S)
+    → ((v : ℕ) (o : Option Ending) → m.ended old v o → m.ended mid v o) → ((es : List (Bytes × Value Ref)) → m.names old es → m.names mid es) → ((u : ℕ) → ws u ≡ ws2 u) → Leaves m mid h ws endings named new → Leaves m old h ws2 endings named new
+leaves_by m old mid h ws ws2 endings named new kept exports same l = record { heap = l.heap; windows = λ u. l.windows u ∙ same u; ended = λ v o k. l.ended v o (kept v o k); names = λ es k. l.names es (exports es k) }
 
 -- an act behind such a change is an act of the site before it
 did_behind : {C W S : Type 0} (m : Meaning C W S) (old mid : S) (t cells threads : ℕ) (v : W) (h : Heap) (depth : ℕ) (self : Self Ref) (u : Term Ref) (a : Act) (made : Made) (new : S)
     → Rewinds m old t v mid → DidAct m mid t cells threads h depth self u a made new → DidAct m old t cells threads h depth self u a made new
 did_behind m old mid t cells threads v h depth self u a made new r (DoesRow op hs kind loc h2 x w _ needs did reads l) =
-    DoesRow op hs kind loc h2 x w new needs did reads (leaves_by m old mid h2 _ _ _ new r.ended (again (m.windows old) (m.windows mid) t (Some v) (Some w) r.windows) l)
+    DoesRow op hs kind loc h2 x w new needs did reads (leaves_by m old mid h2 _ _ _ _ new r.ended r.names (again (m.windows old) (m.windows mid) t (Some v) (Some w) r.windows) l)
 did_behind m old mid t cells threads v h depth self u a made new r (MakesCell op hs kind loc h2 x w _ needs did reads l) =
-    MakesCell op hs kind loc h2 x w new needs did reads (leaves_by m old mid h2 _ _ _ new r.ended (again (m.windows old) (m.windows mid) t (Some v) (Some w) r.windows) l)
+    MakesCell op hs kind loc h2 x w new needs did reads (leaves_by m old mid h2 _ _ _ _ new r.ended r.names (again (m.windows old) (m.windows mid) t (Some v) (Some w) r.windows) l)
 did_behind m old mid t cells threads v h depth self u a made new r (ForksOff value hs w begun _ needs room reads begins l) =
-    ForksOff value hs w begun new needs room reads begins (leaves_by m old mid h _ _ _ new r.ended
+    ForksOff value hs w begun new needs room reads begins (leaves_by m old mid h _ _ _ _ new r.ended r.names
     (alike_at (with_at (m.windows old) t (Some w)) (with_at (m.windows mid) t (Some w)) threads (Some begun) (again (m.windows old) (m.windows mid) t (Some v) (Some w) r.windows)) l)
 did_behind m old mid t cells threads v h depth self u a made new r (HasTooMany value hs w _ needs room reads l) =
-    HasTooMany value hs w new needs room reads (leaves_by m old mid h _ _ _ new r.ended (again (m.windows old) (m.windows mid) t (Some v) (Some w) r.windows) l)
+    HasTooMany value hs w new needs room reads (leaves_by m old mid h _ _ _ _ new r.ended r.names (again (m.windows old) (m.windows mid) t (Some v) (Some w) r.windows) l)
 did_behind m old mid t cells threads v h depth self u a made new r (JoinsWith k hs w _ needs ended reads l) =
     JoinsWith k hs w new needs (λ none. ended (r.ended k None none)) (λ e kept. reads e (r.ended k (Some e) kept))
-    (leaves_by m old mid h _ _ _ new r.ended (again (m.windows old) (m.windows mid) t (Some v) (Some w) r.windows) l)
+    (leaves_by m old mid h _ _ _ _ new r.ended r.names (again (m.windows old) (m.windows mid) t (Some v) (Some w) r.windows) l)
 did_behind m old mid t cells threads v h depth self u a made new r (EndsHere e _ ends l) =
-    EndsHere e new ends (leaves_by m old mid h _ _ _ new r.ended (again (m.windows old) (m.windows mid) t (Some v) None r.windows) l)
+    EndsHere e new ends (leaves_by m old mid h _ _ _ _ new r.ended r.names (again (m.windows old) (m.windows mid) t (Some v) None r.windows) l)
+did_behind m old mid t cells threads v h depth self u a made new r (Exports name value hs w _ needs reads l) =
+    Exports name value hs w new needs reads (leaves_by m old mid h _ _ _ _ new r.ended r.names (again (m.windows old) (m.windows mid) t (Some v) (Some w) r.windows) l)
+did_behind m old mid t cells threads v h depth self u a made new r (Imports name engine hs w _ needs reads l) =
+    Imports name engine hs w new needs (λ es k. reads es (r.names es k)) (leaves_by m old mid h _ _ _ _ new r.ended r.names (again (m.windows old) (m.windows mid) t (Some v) (Some w) r.windows) l)
 
 did_in_behind : {C W S : Type 0} (m : Meaning C W S) (old mid : S) (t cells threads : ℕ) (v w : W) (a : Act) (made : Made) (new : S)
     → Rewinds m old t v mid → DidIn m mid t w cells threads a made new → DidIn m old t w cells threads a made new

@@ -1,17 +1,18 @@
 -- What an act at a site is, told of that site alone.
-use Rattle.std.specs.Prelude.{List, Option, Some, None, true, false, if◌then◌else◌, ◌==◌, ℕ, suc, ◌≤◌, ◌≡◌, ◌⊎◌, nat_le}
+use Rattle.std.specs.Prelude.{List, [], Option, Some, None, Bool, true, false, if◌then◌else◌, ◌==◌, ℕ, suc, ◌≤◌, ◌≡◌, ◌⊎◌, nat_le}
 use Rattle.obq_base.specs.declared.acts.Act.{Act}
 use Rattle.obq_base.specs.declared.acts.ActKind.{ActKind}
 use Rattle.obq_base.specs.declared.limits.TheConstants.{THREAD_LIMIT}
 use Rattle.obq_base.specs.Tree.{BlockTree}
 use Rattle.obq_laws.specs.Known.{Numbered, IsKnownOperation}
 use Rattle.obq_laws.specs.Locality.{needs_owner}
-use Rattle.obq_model.specs.Terms.{Bytes, Value, Thread, Call, Term, Const, Form, Part, End}
+use Rattle.obq_model.specs.Terms.{Bytes, Okay, Value, Thread, Call, Term, Const, Form, Part, End}
 use Rattle.obq_model.specs.Exceptions.{fork_limit}
-use Rattle.obq_model.specs.Step.{Self, no_self, Operation, ForkOff, JoinWith, LineUp, Again, Frame, plug, Needs, find, self_at}
+use Rattle.obq_model.specs.Step.{Self, no_self, Operation, ForkOff, JoinWith, LineUp, Again, Export, Import, Frame, plug, Needs, find, self_at}
 use Rattle.obq_model.specs.Config.{act}
 use Rattle.obq_model.specs.Effect.{in_line, line_of}
-use Rattle.obq_model.specs.Cells.{cell_row, again_row, written}
+use Rattle.obq_model.specs.Cells.{cell_row, again_row, import_row, written}
+use Rattle.obq_model.specs.Store.{export, exported}
 use Rattle.obq_model.specs.OneCell.{cell_of, owner_of}
 use Rattle.obq_stands.specs.World as world
 use Rattle.obq_stands.specs.World.{Ref, same_ref, with_at, Born, Heap, Ending, ending_term, Idle, Ends}
@@ -60,6 +61,7 @@ pub record Rewinds {C W S : Type 0} (m : Meaning C W S) (old : S) (t : ℕ) (w :
   pub size : m.size new ≡ m.size old
   pub windows : (u : ℕ) → m.windows new u ≡ with_at (m.windows old) t (Some w) u
   pub ended : (v : ℕ) (o : Option Ending) → m.ended old v o → m.ended new v o
+  pub names : (exports : List (Bytes × Value Ref)) → m.names old exports → m.names new exports
 
 -- thread t goes at most so many pure steps on; nothing else changes
 pub record IsRunOn {C W S : Type 0} (m : Meaning C W S) (old : S) (t most : ℕ) (slice : Slice) (new : S) : Type 0 where
@@ -75,6 +77,7 @@ pub record BeginsWith {C W S : Type 0} (m : Meaning C W S) (w : W) (s : S) : Typ
   pub size : m.size s ≤ 1
   pub windows : (u : ℕ) → m.windows s u ≡ (if u == 0 then Some w else None)
   pub ended : (v : ℕ) → m.ended s v None
+  pub names : m.names s []
 
 -- its window is that of block 0
 abbrev pub Begins : {C W S : Type 0} → Meaning C W S → List BlockTree → S → Type 0
@@ -87,40 +90,56 @@ same_endings v o = o
 abbrev pub with_ending : ℕ → Ending → ℕ → Option Ending → Option Ending
 with_ending t e v o = if v == t then Some e else o
 
--- behind an act: these cells, these windows, and these endings
-pub record Leaves {C W S : Type 0} (m : Meaning C W S) (old : S) (h : Heap) (ws : ℕ → Option W) (endings : ℕ → Option Ending → Option Ending) (new : S) : Type 0 where
+-- the exported names behind an act on none of them
+abbrev pub same_names : List (Bytes × Value Ref) → List (Bytes × Value Ref)
+same_names exports = exports
+
+-- behind an act: these cells, these windows, these endings, and these names
+pub record Leaves {C W S : Type 0} (m : Meaning C W S) (old : S) (h : Heap) (ws : ℕ → Option W) (endings : ℕ → Option Ending → Option Ending) (exports : List (Bytes × Value Ref) → List (Bytes × Value Ref)) (new : S) : Type 0 where
   pub heap : m.heap new h
   pub windows : (u : ℕ) → m.windows new u ≡ ws u
   pub ended : (v : ℕ) (o : Option Ending) → m.ended old v o → m.ended new v (endings v o)
+  pub names : (es : List (Bytes × Value Ref)) → m.names old es → m.names new (exports es)
 
 -- The act of thread t, whose window reads back as u with this depth and current self, in a site whose cells read back as h; so many cells and threads were made before it.
 pub data DidAct {C W S : Type 0} (m : Meaning C W S) (old : S) (t cells threads : ℕ) (h : Heap) (depth : ℕ) (self : Self Ref) (u : Term Ref) : Act → Made → S → Type 0 where
   -- on the cells of the heap
   DoesRow : (op : Operation Ref) (hs : List (Frame Ref)) (kind : ActKind) (loc : ℕ) (h2 : Heap) (x : Term Ref) (w : W) (new : S)
       → find same_ref depth self u ≡ Needs op hs → Did 0 h cells t (self_at self hs) op kind loc h2 cells x → m.reads w depth self (plug hs x)
-      → Leaves m old h2 (with_at (m.windows old) t (Some w)) same_endings new
+      → Leaves m old h2 (with_at (m.windows old) t (Some w)) same_endings same_names new
       → DidAct m old t cells threads h depth self u (act kind loc) Made.Nothing new
   -- with a new one
   MakesCell : (op : Operation Ref) (hs : List (Frame Ref)) (kind : ActKind) (loc : ℕ) (h2 : Heap) (x : Term Ref) (w : W) (new : S)
       → find same_ref depth self u ≡ Needs op hs → Did 0 h cells t (self_at self hs) op kind loc h2 (suc cells) x → m.reads w depth self (plug hs x)
-      → Leaves m old h2 (with_at (m.windows old) t (Some w)) same_endings new
+      → Leaves m old h2 (with_at (m.windows old) t (Some w)) same_endings same_names new
       → DidAct m old t cells threads h depth self u (act kind loc) Made.Cell new
   ForksOff : (v : Value Ref) (hs : List (Frame Ref)) (w begun : W) (new : S)
       → find same_ref depth self u ≡ Needs (ForkOff v) hs → nat_le THREAD_LIMIT threads ≡ false → m.reads w depth self (plug hs (Const (Thread threads))) → m.reads begun 0 no_self (Form Call (Part (Const v) End))
-      → Leaves m old h (with_at (with_at (m.windows old) t (Some w)) threads (Some begun)) same_endings new
+      → Leaves m old h (with_at (with_at (m.windows old) t (Some w)) threads (Some begun)) same_endings same_names new
       → DidAct m old t cells threads h depth self u (act ActKind.Fork threads) Made.Thread new
   HasTooMany : (v : Value Ref) (hs : List (Frame Ref)) (w : W) (new : S)
       → find same_ref depth self u ≡ Needs (ForkOff v) hs → nat_le THREAD_LIMIT threads ≡ true → m.reads w depth self (plug hs fork_limit)
-      → Leaves m old h (with_at (m.windows old) t (Some w)) same_endings new
+      → Leaves m old h (with_at (m.windows old) t (Some w)) same_endings same_names new
       → DidAct m old t cells threads h depth self u (act ActKind.Fork THREAD_LIMIT) Made.Nothing new
   -- the ending of thread v is kept here
   JoinsWith : (v : ℕ) (hs : List (Frame Ref)) (w : W) (new : S)
       → find same_ref depth self u ≡ Needs (JoinWith v) hs → (m.ended old v None → ⊥) → ((e : Ending) → m.ended old v (Some e) → m.reads w depth self (plug hs (ending_term e)))
-      → Leaves m old h (with_at (m.windows old) t (Some w)) same_endings new
+      → Leaves m old h (with_at (m.windows old) t (Some w)) same_endings same_names new
       → DidAct m old t cells threads h depth self u (act ActKind.Join v) Made.Nothing new
   EndsHere : (e : Ending) (new : S)
-      → ends_as (find same_ref depth self u) ≡ Some e → Leaves m old h (with_at (m.windows old) t None) (with_ending t e) new
+      → ends_as (find same_ref depth self u) ≡ Some e → Leaves m old h (with_at (m.windows old) t None) (with_ending t e) same_names new
       → DidAct m old t cells threads h depth self u (act ActKind.End t) Made.Nothing new
+  -- the name has this value
+  Exports : (x : Bytes) (v : Value Ref) (hs : List (Frame Ref)) (w : W) (new : S)
+      → find same_ref depth self u ≡ Needs (Export x v) hs → m.reads w depth self (plug hs (Const Okay))
+      → Leaves m old h (with_at (m.windows old) t (Some w)) same_endings (export x v) new
+      → DidAct m old t cells threads h depth self u (act ActKind.Export 0) Made.Nothing new
+  -- the name is there
+  Imports : (x : Bytes) (engine : Bool) (hs : List (Frame Ref)) (w : W) (new : S)
+      → find same_ref depth self u ≡ Needs (Import x engine) hs
+      → ((exports : List (Bytes × Value Ref)) → m.names old exports → (focus : Term Ref) × (import_row Ends Idle engine (exported x exports) ≡ Ends ActKind.Import None focus) × m.reads w depth self (plug hs focus))
+      → Leaves m old h (with_at (m.windows old) t (Some w)) same_endings same_names new
+      → DidAct m old t cells threads h depth self u (act ActKind.Import 0) Made.Nothing new
 
 abbrev pub DidIn : {C W S : Type 0} → Meaning C W S → S → ℕ → W → (cells threads : ℕ) → Act → Made → S → Type 0
 DidIn m old t w cells threads a made new = (h : Heap) (depth : ℕ) (self : Self Ref) (u : Term Ref) → m.heap old h → m.reads w depth self u → DidAct m old t cells threads h depth self u a made new
@@ -136,6 +155,8 @@ pub data WaitsIn {C W S : Type 0} (m : Meaning C W S) (s : S) (h : Heap) (t : �
       → again_row Ends Idle t (in_line t (line_of (Some y.cell))) o c guard (Some x.cell) ≡ Idle → WaitsIn m s h t z (Again o c guard)
   -- no ending of thread v is kept here
   JoiningWaits : (v : ℕ) → ((e : Ending) → m.ended s v (Some e) → ⊥) → WaitsIn m s h t z (JoinWith v)
+  -- no such name is kept here
+  ImportingWaits : (x : Bytes) (engine : Bool) → ((exports : List (Bytes × Value Ref)) → m.names s exports → exported x exports ≡ None) → WaitsIn m s h t z (Import x engine)
 
 abbrev pub WaitsHere : {C W S : Type 0} → Meaning C W S → S → ℕ → Type 0
 WaitsHere {C} {W} m s t =

@@ -1,7 +1,7 @@
 -- What the codes, windows and sites of a machine mean. A machine is not known here: these are words for what it tells of itself.
 use Rattle.std.specs.Prelude.{List, Option, Some, [], ℕ, slice_get, ◌≡◌, ◌≤◌}
 use Rattle.obq_base.specs.Tree.{BlockTree}
-use Rattle.obq_model.specs.Terms.{Raised, Value, Term}
+use Rattle.obq_model.specs.Terms.{Bytes, Raised, Value, Term}
 use Rattle.obq_model.specs.Step.{Self, no_self, Operation, Frame, Found, Done, Uncaught, find}
 use Rattle.obq_model.specs.Step as step
 use Rattle.obq_model.specs.Maps.{map_term}
@@ -25,6 +25,8 @@ pub record Meaning (C W S : Type 0) : Type 1 where
   pub windows : S → ℕ → Option W
   -- what is kept there of how a thread ended reads back as this
   pub ended : S → ℕ → Option Ending → Type 0
+  -- the exported names that are kept there read back as these
+  pub names : S → List (Bytes × Value Ref) → Type 0
 
 abbrev pub IsRunning : {C W S : Type 0} → Meaning C W S → S → ℕ → Type 0
 IsRunning {C} {W} m s t = (w : W) × (m.windows s t ≡ Some w)

@@ -5,7 +5,8 @@ use Rattle.obq_base.specs.declared.limits.TheConstants.{TURN_LIMIT}
 use Rattle.obq_base.specs.Tree.{BlockTree}
 use Rattle.obq_model.specs.Config.{Config}
 use Rattle.obq_model.specs.Replay.{replay, IsOver}
-use Rattle.obq_stands.specs.World.{Slot}
+use Rattle.obq_model.specs.Terms.{Bytes, Value}
+use Rattle.obq_stands.specs.World.{Ref, Slot}
 use Rattle.obq_stands.specs.Stands.{StandsFor}
 use Rattle.obq_stands.specs.Facts.{HasWriters}
 use Rattle.obq_stands.specs.Sites.{Site, Rest, assembled}
@@ -42,11 +43,12 @@ ThreadReads m used o r = ⊥
 abbrev pub ThreadsRead : {C W S : Type 0} → Meaning C W S → List ThreadSlot → (ℕ → Option W) → (ℕ → Option Slot) → Type 0
 ThreadsRead m slots ws rs = (t : ℕ) → ThreadReads m (used_in (slice_get slots t)) (ws t) (rs t)
 
--- the site reads back as this one
-pub record SiteReads {C W S : Type 0} (m : Meaning C W S) (z : Site) (site : S) (slots : List ThreadSlot) : Type 0 where
+-- the site reads back as this one, where these names are exported
+pub record SiteReads {C W S : Type 0} (m : Meaning C W S) (z : Site) (exports : List (Bytes × Value Ref)) (site : S) (slots : List ThreadSlot) : Type 0 where
   pub heap : m.heap site z.heap
   pub threads : ThreadsRead m slots (m.windows site) z.running
   pub ended : (v : ℕ) → m.ended site v (z.ended v)
+  pub names : m.names site exports
 
 -- there is one site, and nothing is between sites
 pub record IsAlone (sites : ℕ → Site) (rest : Rest) : Type 0 where
@@ -60,7 +62,7 @@ pub record WorldStands {C W S : Type 0} (m : Meaning C W S) (blocks : List Block
   pub sites : ℕ → Site
   pub rest : Rest
   pub stands : StandsFor blocks turns (assembled sites rest)
-  pub reads : SiteReads m (sites 0) w.site w.slots
+  pub reads : SiteReads m (sites 0) rest.names w.site w.slots
   pub alone : IsAlone sites rest
   pub writers : HasWriters 1 (assembled sites rest)
   pub one : length blocks ≡ 1

@@ -9,9 +9,10 @@ use Rattle.obq_model.specs.Journal.{Journal}
 use Rattle.obq_model.specs.Output.{run_text}
 use Rattle.obq_model.specs.Replay.{TakeTurns, status}
 use Rattle.obq_run.specs.Ends.{GetsLine, IsRanOrNoMemory, line_of}
-use Rattle.obq_run.specs.Played.{RunsOf, output_text, texts_of}
+use Rattle.obq_run.specs.Linked.{links_part}
+use Rattle.obq_run.specs.Played.{RunsOf, behind_threads, output_text, texts_of}
 use Rattle.obq_run.specs.Runs.{IsRunOf, RefusalCompletes, RunCompletes, TooLongCompletes, journal_part}
-use Rattle.obq_run.specs.declared.playing.Played.{Played}
+use Rattle.obq_run.specs.declared.run.Ran.{Ran}
 use Rattle.obq_words.specs.Words.{names_of, paths_of}
 use Rattle.obq_run.proofs.Complete.{source_refused}
 use Rattle.obq_run.proofs.Histories.{on_ran, on_write_fault, played_history, text_with}
@@ -19,20 +20,20 @@ use Rattle.obq_run.proofs.Refusals.{refusal_finished, refusal_refused, too_long_
 use Rattle.obq_run.proofs.run.run_sites.Goals as goal
 
 -- sources that ran so have this output, with the journal behind it where it is wanted
-ran_so : (holds : List ℕ → Option (List ℕ)) (names paths : List (List ℕ)) (turns : ℕ) (wanted : Bool) (played : Played) (part : List ℕ) (s : ℕ) → RunsOf holds SOURCE_LIMIT paths turns played
-    → part ≡ journal_part wanted (shown played.journal) → s ≡ status (played.outcome.report)
-    → IsRunOf holds SOURCE_LIMIT names paths turns wanted (shown played.journal) (output_text names played.outcome part) s
-ran_so holds names paths turns wanted played part s w is ended = record {
+ran_so : (holds : List ℕ → Option (List ℕ)) (names paths : List (List ℕ)) (turns : ℕ) (linked wanted : Bool) (ran : Ran) (part : List ℕ) (s : ℕ) → RunsOf holds SOURCE_LIMIT paths turns linked ran
+    → part ≡ behind_threads linked wanted names ran → s ≡ status (ran.played.outcome.report)
+    → IsRunOf holds SOURCE_LIMIT names paths turns linked wanted (shown ran.played.journal) (output_text names ran.played.outcome part) s
+ran_so holds names paths turns linked wanted ran part s w is ended = record {
   sources = w.sources;
   held = w.held;
   trees = w.trees;
   accepted = w.accepted;
-  outputs = texts_of played.outcome.texts.items;
-  threads = played.outcome.report;
-  history = played_history _ played.outcome (shown played.journal) w.is_run.is_played;
-  turn_limit = w.is_run.turn_limit;
-  each = w.is_run.each;
-  output_text = text_with names played.outcome part ∙ ap (λ t. run_text (zip names (texts_of played.outcome.texts.items)) (played.outcome.report) ++ t) is;
+  outputs = texts_of ran.played.outcome.texts.items;
+  threads = ran.played.outcome.report;
+  history = played_history _ ran.played.outcome (shown ran.played.journal) w.is_run.is_run.is_played;
+  turn_limit = w.is_run.is_run.turn_limit;
+  each = w.is_run.is_run.each;
+  output_text = text_with names ran.played.outcome part ∙ ap (λ t. run_text (zip names (texts_of ran.played.outcome.texts.items)) (ran.played.outcome.report) ++ t) (is ∙ ap (λ rows. links_part linked names rows ++ journal_part wanted (shown ran.played.journal)) w.is_run.rows);
   report_status = ended;
 }
 
@@ -64,48 +65,50 @@ returns-in-Err-clause-completes_too_long g c =
     let why = c.in-Err.ensures in
     subst (λ cause. TooLongCompletes holds SOURCE_LIMIT paths Rises cause) (sym c.refuse.ensures.cause) (too_long_refused holds SOURCE_LIMIT paths Rises c.in-Err.cause why.only why.read_fault why.too_long why.refused)
 
-pub returns-in-Ok-journal_part-clause-ran : goal.returns-in-Ok-journal_part-clause-ran
-returns-in-Ok-journal_part-clause-ran g c =
+pub returns-in-Ok-text_behind-clause-ran : goal.returns-in-Ok-text_behind-clause-ran
+returns-in-Ok-text_behind-clause-ran g c =
     let holds = g.F.Files.holds c.args.files.now in
     let names = names_of c.args.sites.now in
     let paths = paths_of c.args.sites.now in
-    let played = c.in-Ok.played in
+    let ran = c.in-Ok.ran in
+    let played = ran.played in
     let part : List ℕ = c.deref.result.now in
-    let is = c.deref.ensures.value ∙ c.in-Ok-journal_part.ensures in
+    let is = c.deref.ensures.value ∙ c.in-Ok-text_behind.ensures in
     on_ran c.finish.result.cause _ _ (λ h. (
       output_text names played.outcome part,
-      subst (λ (j : Journal). IsRunOf holds SOURCE_LIMIT names paths c.args.turns c.args.wanted j (output_text names played.outcome part) c.finish.result.status) (sym c.finish.ensures.journal)
-          (ran_so holds names paths c.args.turns c.args.wanted played part c.finish.result.status c.in-Ok.ensures.ran is h.0),
+      subst (λ (j : Journal). IsRunOf holds SOURCE_LIMIT names paths c.args.order.limits.turns c.args.order.links c.args.order.journal j (output_text names played.outcome part) c.finish.result.status) (sym c.finish.ensures.journal)
+          (ran_so holds names paths c.args.order.limits.turns c.args.order.links c.args.order.journal ran part c.finish.result.status c.in-Ok.ensures.ran is h.0),
       h.1,
     )) c.finish.ensures.ran
 
-pub returns-in-Ok-journal_part-clause-part : goal.returns-in-Ok-journal_part-clause-part
-returns-in-Ok-journal_part-clause-part g c =
+pub returns-in-Ok-text_behind-clause-part : goal.returns-in-Ok-text_behind-clause-part
+returns-in-Ok-text_behind-clause-part g c =
     let holds = g.F.Files.holds c.args.files.now in
     let names = names_of c.args.sites.now in
     let paths = paths_of c.args.sites.now in
-    let played = c.in-Ok.played in
+    let ran = c.in-Ok.ran in
+    let played = ran.played in
     let part : List ℕ = c.deref.result.now in
-    let is = c.deref.ensures.value ∙ c.in-Ok-journal_part.ensures in
+    let is = c.deref.ensures.value ∙ c.in-Ok-text_behind.ensures in
     let ended : ℕ = status (played.outcome.report) in
     on_write_fault c.finish.result.cause _ _ (λ prefix. (
       output_text names played.outcome part,
       ended,
-      subst (λ (j : Journal). IsRunOf holds SOURCE_LIMIT names paths c.args.turns c.args.wanted j (output_text names played.outcome part) ended) (sym c.finish.ensures.journal)
-          (ran_so holds names paths c.args.turns c.args.wanted played part ended c.in-Ok.ensures.ran is refl),
+      subst (λ (j : Journal). IsRunOf holds SOURCE_LIMIT names paths c.args.order.limits.turns c.args.order.links c.args.order.journal j (output_text names played.outcome part) ended) (sym c.finish.ensures.journal)
+          (ran_so holds names paths c.args.order.limits.turns c.args.order.links c.args.order.journal ran part ended c.in-Ok.ensures.ran is refl),
       prefix,
     )) c.finish.ensures.part
 
-pub returns-in-Ok-journal_part-clause-completes_refused : goal.returns-in-Ok-journal_part-clause-completes_refused
-returns-in-Ok-journal_part-clause-completes_refused g c =
+pub returns-in-Ok-text_behind-clause-completes_refused : goal.returns-in-Ok-text_behind-clause-completes_refused
+returns-in-Ok-text_behind-clause-completes_refused g c =
     let files = g.F.Files in
     let Rises : List ℕ → Type 0 = λ p. Rose (files.faults c.args.files.now p) (files.faults c.run_files.new.files p) in
-    let runs : RunsOf (files.holds c.args.files.now) SOURCE_LIMIT (paths_of c.args.sites.now) c.args.turns c.in-Ok.played = c.in-Ok.ensures.ran in
+    let runs : RunsOf (files.holds c.args.files.now) SOURCE_LIMIT (paths_of c.args.sites.now) c.args.order.limits.turns c.args.order.links c.in-Ok.ran = c.in-Ok.ensures.ran in
     refusal_finished (files.holds c.args.files.now) SOURCE_LIMIT (paths_of c.args.sites.now) runs.sources runs.trees Rises c.finish.result.cause runs.held runs.accepted
 
-pub returns-in-Ok-journal_part-clause-completes_too_long : goal.returns-in-Ok-journal_part-clause-completes_too_long
-returns-in-Ok-journal_part-clause-completes_too_long g c =
+pub returns-in-Ok-text_behind-clause-completes_too_long : goal.returns-in-Ok-text_behind-clause-completes_too_long
+returns-in-Ok-text_behind-clause-completes_too_long g c =
     let files = g.F.Files in
     let Rises : List ℕ → Type 0 = λ p. Rose (files.faults c.args.files.now p) (files.faults c.run_files.new.files p) in
-    let runs : RunsOf (files.holds c.args.files.now) SOURCE_LIMIT (paths_of c.args.sites.now) c.args.turns c.in-Ok.played = c.in-Ok.ensures.ran in
+    let runs : RunsOf (files.holds c.args.files.now) SOURCE_LIMIT (paths_of c.args.sites.now) c.args.order.limits.turns c.args.order.links c.in-Ok.ran = c.in-Ok.ensures.ran in
     too_long_finished (files.holds c.args.files.now) SOURCE_LIMIT (paths_of c.args.sites.now) runs.sources Rises c.finish.result.cause runs.held

@@ -13,8 +13,8 @@ use Rattle.obq_run.proofs.top.obliq.Goals as goal
 pub run_sites-requires : goal.run_sites-requires
 run_sites-requires g c =
     let words : List (List ℕ) = bytes_of c.args.words.now in
-    let given : Answers words (Ok (Run c.in-Ok-Run.turns c.in-Ok-Run.journal c.in-Ok-Run.sites)) = subst (λ order. Answers words (Ok order)) c.in-Ok-Run.field-0-is c.in-Ok-Run.ensures in
-    let sites : AreSites words c.in-Ok-Run.sites.items = given.5 in
+    let given : Answers words (Ok (Run c.in-Ok-Run.turns c.in-Ok-Run.workers c.in-Ok-Run.journal c.in-Ok-Run.links c.in-Ok-Run.sites)) = subst (λ order. Answers words (Ok order)) c.in-Ok-Run.field-0-is c.in-Ok-Run.ensures in
+    let sites : AreSites words c.in-Ok-Run.sites.items = given.9 in
     subst AreInForm (sym c.deref.ensures.value) (in_form words c.in-Ok-Run.sites.items given.0 sites)
 
 pub check_sources-requires : goal.check_sources-requires
@@ -35,8 +35,8 @@ pub returns-in-Ok-Run-clause-completes : goal.returns-in-Ok-Run-clause-completes
 returns-in-Ok-Run-clause-completes g c =
     let files = g.F.Files in
     let words : List (List ℕ) = bytes_of c.args.words.now in
-    let given : Answers words (Ok (Run c.in-Ok-Run.turns c.in-Ok-Run.journal c.in-Ok-Run.sites)) = subst (λ order. Answers words (Ok order)) c.in-Ok-Run.field-0-is c.in-Ok-Run.ensures in
-    let sites : AreSites words c.in-Ok-Run.sites.items = given.5 in
+    let given : Answers words (Ok (Run c.in-Ok-Run.turns c.in-Ok-Run.workers c.in-Ok-Run.journal c.in-Ok-Run.links c.in-Ok-Run.sites)) = subst (λ order. Answers words (Ok order)) c.in-Ok-Run.field-0-is c.in-Ok-Run.ensures in
+    let sites : AreSites words c.in-Ok-Run.sites.items = given.9 in
     let holds = files.holds c.args.files.now in
     let Rises : List ℕ → Type 0 = λ p. Rose (files.faults c.args.files.now p) (files.faults c.run_sites.new.files p) in
     let output : Type 0 = Rose (g.O.Sink.faults c.args.out.now) (g.O.Sink.faults c.run_sites.new.out) in
@@ -63,8 +63,8 @@ pub returns-in-Ok-Run-clause-completes_refused : goal.returns-in-Ok-Run-clause-c
 returns-in-Ok-Run-clause-completes_refused g c =
     let files = g.F.Files in
     let words : List (List ℕ) = bytes_of c.args.words.now in
-    let given : Answers words (Ok (Run c.in-Ok-Run.turns c.in-Ok-Run.journal c.in-Ok-Run.sites)) = subst (λ order. Answers words (Ok order)) c.in-Ok-Run.field-0-is c.in-Ok-Run.ensures in
-    let sites : AreSites words c.in-Ok-Run.sites.items = given.5 in
+    let given : Answers words (Ok (Run c.in-Ok-Run.turns c.in-Ok-Run.workers c.in-Ok-Run.journal c.in-Ok-Run.links c.in-Ok-Run.sites)) = subst (λ order. Answers words (Ok order)) c.in-Ok-Run.field-0-is c.in-Ok-Run.ensures in
+    let sites : AreSites words c.in-Ok-Run.sites.items = given.9 in
     let holds = files.holds c.args.files.now in
     let Rises : List ℕ → Type 0 = λ p. Rose (files.faults c.args.files.now p) (files.faults c.run_sites.new.files p) in
     let cause = c.run_sites.result.cause in
@@ -76,8 +76,8 @@ pub returns-in-Ok-Run-clause-completes_too_long : goal.returns-in-Ok-Run-clause-
 returns-in-Ok-Run-clause-completes_too_long g c =
     let files = g.F.Files in
     let words : List (List ℕ) = bytes_of c.args.words.now in
-    let given : Answers words (Ok (Run c.in-Ok-Run.turns c.in-Ok-Run.journal c.in-Ok-Run.sites)) = subst (λ order. Answers words (Ok order)) c.in-Ok-Run.field-0-is c.in-Ok-Run.ensures in
-    let sites : AreSites words c.in-Ok-Run.sites.items = given.5 in
+    let given : Answers words (Ok (Run c.in-Ok-Run.turns c.in-Ok-Run.workers c.in-Ok-Run.journal c.in-Ok-Run.links c.in-Ok-Run.sites)) = subst (λ order. Answers words (Ok order)) c.in-Ok-Run.field-0-is c.in-Ok-Run.ensures in
+    let sites : AreSites words c.in-Ok-Run.sites.items = given.9 in
     let holds = files.holds c.args.files.now in
     let Rises : List ℕ → Type 0 = λ p. Rose (files.faults c.args.files.now p) (files.faults c.run_sites.new.files p) in
     let cause = c.run_sites.result.cause in
