@@ -31,15 +31,25 @@ fn shown(alloc: Global, sites: &[SiteWord]) -> Result<String, AllocError> {
     Ok(text)
 }
 
+/// What a run prints behind its output.
+fn extras(journal: bool, links: bool) -> &'static str {
+    match (journal, links) {
+        (false, false) => "",
+        (true, false) => ", journal",
+        (false, true) => ", links",
+        (true, true) => ", journal, links",
+    }
+}
+
 fn print_run(
     rt: &impl Print,
     line: &str,
     turns: u32,
-    journal: bool,
+    workers: u32,
+    extras: &str,
     sites: &str,
 ) -> io::Result<()> {
-    let journal = if journal { ", journal" } else { "" };
-    println!(rt; "{line}  =>  run, {turns} turns{journal}: {sites}")
+    println!(rt; "{line}  =>  run, {turns} turns, {workers} workers{extras}: {sites}")
 }
 
 fn print_check(rt: &impl Print, line: &str, sites: &str) -> io::Result<()> {
@@ -55,9 +65,18 @@ fn print_order(rt: &impl Print, alloc: Global, line: &str, order: Order) -> io::
     match order {
         Order::Run {
             turns,
+            workers,
             journal,
+            links,
             sites,
-        } => print_run(rt, line, turns, journal, &shown(alloc, &sites)?),
+        } => print_run(
+            rt,
+            line,
+            turns,
+            workers,
+            extras(journal, links),
+            &shown(alloc, &sites)?,
+        ),
         Order::Check { sites } => print_check(rt, line, &shown(alloc, &sites)?),
         Order::Replay { from, sites } => {
             print_replay(rt, line, from.as_str(), &shown(alloc, &sites)?)

@@ -1,5 +1,5 @@
 -- What a run came to, and the output that it has.
-use Rattle.std.specs.Prelude.{Err, List, Ok, Option, Result, Some, length, map, ℕ, ⊤, ◌++◌, ◌≡◌}
+use Rattle.std.specs.Prelude.{Bool, Err, List, Ok, Option, Result, Some, length, map, ℕ, ⊤, ◌++◌, ◌≡◌}
 use Rattle.std.specs.Global.{Vec}
 use Rattle.std.specs.Io.KnownBytes.{Appends}
 use Rattle.std.specs.List.{flat_map, zip}
@@ -10,6 +10,7 @@ use Rattle.obq_base.specs.declared.trees.Block.{Block}
 use Rattle.obq_io.specs.Known.{GetsPrefix}
 use Rattle.obq_io.specs.declared.files.Failed.{Failed}
 use Rattle.obq_journal.specs.Recording.{shown}
+use Rattle.obq_links.specs.Rows.{rows_of}
 use Rattle.obq_model.specs.Config.{Config}
 use Rattle.obq_model.specs.Journal.{Journal}
 use Rattle.obq_model.specs.JournalText.{journal_in}
@@ -20,11 +21,13 @@ use Rattle.obq_model.specs.Sources.{AreAccepted, IsFirstRefused}
 use Rattle.obq_plain.specs.PlainStates.{PlainState}
 use Rattle.obq_run.specs.Ends.{GetsLine}
 use Rattle.obq_run.specs.Held.{AreHeld}
-use Rattle.obq_run.specs.Runs.{WithJournal}
+use Rattle.obq_run.specs.Linked.{link_rows, links_part}
+use Rattle.obq_run.specs.Runs.{WithJournal, journal_part}
 use Rattle.obq_run.specs.declared.ends.Cause.{Cause}
 use Rattle.obq_run.specs.declared.ends.Cause.TheVariants as cause
 use Rattle.obq_run.specs.declared.outcome.Outcome.{Outcome}
 use Rattle.obq_run.specs.declared.playing.Played.{Played}
+use Rattle.obq_run.specs.declared.run.Ran.{Ran}
 use Rattle.obq_run.specs.declared.replaying.EntriesRefused.{EntriesRefused}
 use Rattle.obq_run.specs.declared.replaying.EntriesRefused.TheVariants as refused
 
@@ -78,13 +81,22 @@ abbrev pub Wrote : (text : List ℕ) → (old new : Option (List ℕ)) → (rose
 Wrote text old new rose told_before told_now untold quiet (Ok done) = Appends old new text × quiet
 Wrote text old new rose told_before told_now untold quiet (Err failed) = GetsPrefix old new text × rose × GetsLine told_before told_now untold write_fault_line
 
+-- a run with the rows of its table of links, where that is wanted
+pub record IsRanSo (trees : List BlockTree) (turns : ℕ) (linked : Bool) (ran : Ran) : Type 0 where
+  pub is_run : IsRun trees turns ran.played
+  pub rows : rows_of ran.links.items ≡ link_rows linked trees (shown ran.played.journal)
+
+-- what stands behind the threads in the output of a run, where it is asked for
+abbrev pub behind_threads : (linked wanted : Bool) → (names : List (List ℕ)) → Ran → List ℕ
+behind_threads linked wanted names ran = links_part linked names (rows_of ran.links.items) ++ journal_part wanted (shown ran.played.journal)
+
 -- Sources within the limit, which are what the paths hold where they tell that, are accepted, and ran so.
-pub record RunsOf (holds : List ℕ → Option (List ℕ)) (limit : ℕ) (paths : List (List ℕ)) (turns : ℕ) (played : Played) : Type 0 where
+pub record RunsOf (holds : List ℕ → Option (List ℕ)) (limit : ℕ) (paths : List (List ℕ)) (turns : ℕ) (linked : Bool) (ran : Ran) : Type 0 where
   pub sources : List (List ℕ)
   pub held : AreHeld holds limit paths sources
   pub trees : List Block
   pub accepted : AreAccepted sources trees
-  pub is_run : IsRun (map block_tree trees) turns played
+  pub is_run : IsRanSo (map block_tree trees) turns linked ran
 
 -- With the bytes of the journal's file they were replayed so.
 abbrev pub ReplaysOf : (List ℕ → Option (List ℕ)) → List (List ℕ) → List ℕ → Played → Type 0

@@ -42,9 +42,9 @@ journal_part true journal = journal_heading ++ journal_text journal
 journal_part false journal = []
 
 -- Sources within the limit, which are what the paths hold where they tell that, ran with this journal: a history of them in which each entry takes
--- a turn. The text is the output of that history at sites of these names, with the journal behind it where it is asked for, and the status that of
--- its report.
-pub record IsRunOf (holds : List ℕ → Option (List ℕ)) (limit : ℕ) (names paths : List (List ℕ)) (turns : ℕ) (wanted : Bool) (journal : Journal) (text : List ℕ) (ended_status : ℕ) : Type 0 where
+-- a turn. The text is the output of that history at sites of these names, with the table of its links behind it where that is asked for, and then the
+-- journal where that is. The status is that of its report.
+pub record IsRunOf (holds : List ℕ → Option (List ℕ)) (limit : ℕ) (names paths : List (List ℕ)) (turns : ℕ) (linked wanted : Bool) (journal : Journal) (text : List ℕ) (ended_status : ℕ) : Type 0 where
   pub sources : List (List ℕ)
   pub held : AreHeld holds limit paths sources
   pub trees : List Block
@@ -54,7 +54,7 @@ pub record IsRunOf (holds : List ℕ → Option (List ℕ)) (limit : ℕ) (names
   pub history : IsHistoryOf (map block_tree trees) journal outputs threads
   pub turn_limit : journal.turns ≡ turns
   pub each : TakeTurns journal.entries
-  pub output_text : text ≡ run_text (zip names outputs) threads ++ journal_part wanted journal
+  pub output_text : text ≡ run_text (zip names outputs) threads ++ (links_part linked names (link_rows linked (map block_tree trees) journal) ++ journal_part wanted journal)
   pub report_status : ended_status ≡ status threads
 
 -- Of sources within the limit, which are what the paths hold where they tell that, this one is the first that has a fault, and this is its first.

@@ -1,4 +1,4 @@
-//! A run of one source by its codes.
+//! A run of one source by its codes, by several workers.
 
 ghost use Rattle.std.specs.Prelude.{◌≡◌, ◌≤◌, IfOk, IfSome, List, length, map, ℕ};
 ghost use Rattle.obq_base.specs.Tree.{BlockTree};
@@ -13,37 +13,50 @@ use crate::playing::{Played, SLICE, play};
 use crate::steps::Steps;
 use obq_base::limits::TURN_LIMIT;
 use obq_base::{Block, NoMemory};
+use obq_cluster::{Limits, run_together};
 use obq_code::Codes;
 use obq_host::Site;
-use obq_world::{Ended, Naming, Refused, run_alone};
+use obq_io::Gate;
+use obq_world::{Ended, Naming, Refused};
 use std::alloc::Global;
 use std::marker::Brand;
+use std::sync::Wait;
+use std::thread::Threads;
 
 /// Runs the program that is named, which is that of these blocks and codes.
-fn run_named<J: Naming>(
+fn run_named<J: Naming + Send + Sync, R: Threads + Wait + Sync, G: Gate>(
+    rt: &R,
     alloc: Global,
     blocks: &[Block],
     codes: Codes,
-    turns: u32,
+    limits: Limits,
+    gate: &G,
 ) -> Result<Ended, Refused>
     requires program { J.program ≡ map block_tree blocks.now }
     requires sites { (length J.program ≡ J.sites) × (J.sites ≡ 1) }
-    requires turns { (turns ≡ J.turns) × (turns ≤ 1000000) }
+    requires turns { (limits.turns ≡ J.turns) × (limits.turns ≤ 1000000) }
     requires codes { AreCodes J.parts J.table J.program codes }
     ensures { IfOk result (IsEndOf J.program J.turns) }
 {
     let _ = blocks;
-    run_alone::<J, Site<Steps>>(alloc, codes, turns, SLICE)
+    run_together::<J, Site<Steps>, R, G>(rt, alloc, codes, limits, gate)
 }
 
 /// A run of one block by its codes, if they do all its acts.
-fn run_block(alloc: Global, blocks: &[Block], codes: Codes, turns: u32) -> Result<Ended, Refused>
+fn run_block<R: Threads + Wait + Sync, G: Gate>(
+    rt: &R,
+    alloc: Global,
+    blocks: &[Block],
+    codes: Codes,
+    limits: Limits,
+    gate: &G,
+) -> Result<Ended, Refused>
     requires one { length blocks.now ≡ 1 }
-    requires turns { turns ≤ 1000000 }
+    requires turns { limits.turns ≤ 1000000 }
     requires codes { AreTabled 0 blocks.now codes }
-    ensures { IfOk result (IsEndOf (map block_tree blocks.now) turns) }
+    ensures { IfOk result (IsEndOf (map block_tree blocks.now) limits.turns) }
 {
-    run_named::<Brand>(alloc, blocks, codes, turns)
+    run_named::<Brand, R, G>(rt, alloc, blocks, codes, limits, gate)
 }
 
 /// What the run of one source came to.
@@ -64,11 +77,14 @@ fn played(alloc: Global, ended: Ended) -> Result<Played, NoMemory>
 }
 
 /// Runs the only block by its codes. None where there are more blocks, or the run comes to an act that isn't done so.
-pub fn play_alone(
+pub fn play_alone<R: Threads + Wait + Sync, G: Gate>(
+    rt: &R,
     alloc: Global,
     blocks: &[Block],
     codes: Codes,
     turns: u32,
+    workers: u32,
+    gate: &G,
 ) -> Result<Option<Played>, NoMemory>
     requires { AreTabled 0 blocks.now codes }
     ensures { IfOk result (λ o. IfSome o (IsRun (map block_tree blocks.now) turns)) }
@@ -76,25 +92,34 @@ pub fn play_alone(
     if blocks.len() != 1 || turns > TURN_LIMIT {
         return Ok(None);
     }
-    match run_block(alloc, blocks, codes, turns) {
+    let limits = Limits {
+        turns,
+        most: SLICE,
+        workers,
+    };
+    match run_block(rt, alloc, blocks, codes, limits, gate) {
         Ok(ended) => Ok(Some(played(alloc, ended)?)),
         Err(Refused::Beyond) => Ok(None),
         Err(Refused::NoMemory) => Err(NoMemory),
     }
 }
 
-/// Runs blocks until no thread can go on: one block by its codes, if they do all its acts, and others by the plain machine.
-pub fn play_program(
+/// Runs blocks until no thread can go on: one block by its codes and by so many workers, if the codes do all its acts, and others by the plain
+/// machine.
+pub fn play_program<R: Threads + Wait + Sync, G: Gate>(
+    rt: &R,
     alloc: Global,
     blocks: &[Block],
     codes: Codes,
     turns: u32,
+    workers: u32,
+    gate: &G,
 ) -> Result<Played, NoMemory>
     requires few { length blocks.now ≤ 16 }
     requires codes { AreTabled 0 blocks.now codes }
     ensures { IfOk result (IsRun (map block_tree blocks.now) turns) }
 {
-    match play_alone(alloc, blocks, codes, turns)? {
+    match play_alone(rt, alloc, blocks, codes, turns, workers, gate)? {
         Some(played) => Ok(played),
         None => play(alloc, blocks, turns),
     }

@@ -7,6 +7,7 @@ mod alone;
 mod check;
 mod ends;
 mod finish;
+mod links;
 mod outcome;
 mod playing;
 mod reading;

@@ -1,14 +1,16 @@
 //! The run of sources.
 
-ghost use Rattle.std.specs.Prelude.{◌≡◌, ◌⊎◌, ◌≤◌, [], IfErr, IfOk, List, length, ℕ};
+ghost use Rattle.std.specs.Prelude.{◌≡◌, ◌⊎◌, ◌≤◌, ◌++◌, [], IfErr, IfOk, List, OnOk, length, map, ℕ};
 ghost use Rattle.std.specs.Io.KnownBytes.{Appends};
+ghost use Rattle.obq_base.specs.View.{block_tree};
+ghost use Rattle.obq_front.specs.Contents.{AreTabled};
 ghost use Rattle.obq_io.specs.Causes.{Rose};
 ghost use Rattle.obq_io.specs.Known.{GetsPrefix};
 ghost use Rattle.obq_journal.specs.Recording.{shown};
 ghost use Rattle.obq_model.specs.Replay.{status};
 ghost use Rattle.obq_run.specs.Ends.{GetsLine, HasStatus, IfReadFault, IfRefused, IfTooLong, IsRefusal, IsRunEnd, IsRunFinish, IsSourceRefusal, OnRan, OnWriteFault, line_of};
 ghost use Rattle.obq_run.specs.Held.{IsFaultAt, IsTooLongAt, PathRose};
-ghost use Rattle.obq_run.specs.Played.{RunsOf, output_text};
+ghost use Rattle.obq_run.specs.Played.{IsRanSo, RunsOf, behind_threads, output_text};
 ghost use Rattle.obq_run.specs.Runs.{IsRefusalOf, IsRunOf, RefusalCompletes, RunCompletes, TooLongCompletes, journal_part};
 ghost use Rattle.obq_words.specs.Words.{AreInForm, names_of, paths_of};
 
@@ -16,26 +18,82 @@ use crate::accepted::{Accepted, accepted_sources};
 use crate::alone::play_program;
 use crate::ends::{Cause, End, status_for};
 use crate::finish::{refuse, write_whole};
+use crate::links::{link_rows, links_part};
 use crate::playing::Played;
 use obq_base::NoMemory;
 use obq_base::limits::SOURCE_LIMIT;
 use obq_ends::status_of;
 use obq_front::Program;
-use obq_io::{Files, Sink};
+use obq_io::{Files, Gate, Sink};
 use obq_journal::{Journal, write_journal};
+use obq_links::LinkCount;
 use obq_words::SiteWord;
 use std::alloc::Global;
+use std::sync::Wait;
+use std::thread::Threads;
+
+/// How sources are run, and what is written besides what they wrote.
+#[derive(Clone, Copy, Debug, PartialEq, Eq)]
+pub struct RunOrder {
+    /// How many turns each thread has.
+    pub turns: u32,
+    /// How many threads of the host run a program of one source.
+    pub workers: u32,
+    /// Whether the journal is written, too.
+    pub journal: bool,
+    /// Whether the table of links is.
+    pub links: bool,
+}
+
+/// A run, and the rows of its table of links where that is wanted.
+#[derive(Drop)]
+pub struct Ran {
+    pub played: Played,
+    pub links: Vec<LinkCount>,
+}
+
+/// Runs a program.
+fn run_program<R: Threads + Wait + Sync, G: Gate>(
+    rt: &R,
+    alloc: Global,
+    program: Program,
+    order: RunOrder,
+    gate: &G,
+) -> Result<Ran, NoMemory>
+    requires few { length program.blocks.items ≤ 16 }
+    requires codes { AreTabled 0 program.blocks.items program.codes }
+    ensures { IfOk result (IsRanSo (map block_tree program.blocks.items) order.turns order.links) }
+{
+    let Program {
+        names: _,
+        blocks,
+        codes,
+    } = program;
+    let played = play_program(
+        rt,
+        alloc,
+        &blocks,
+        codes,
+        order.turns,
+        order.workers,
+        gate,
+    )?;
+    let links = link_rows(alloc, order.links, &blocks, &played.journal)?;
+    Ok(Ran { played, links })
+}
 
 /// Reads, examines and runs the sources of the sites, without writing anything.
-fn run_files<F: Files>(
+fn run_files<R: Threads + Wait + Sync, F: Files, G: Gate>(
+    rt: &R,
     alloc: Global,
     files: &mut F,
     sites: &[SiteWord],
-    turns: u32,
-) -> Result<Played, Cause>
+    order: RunOrder,
+    gate: &G,
+) -> Result<Ran, Cause>
     requires { length sites.now ≤ 16 }
     ensures same { (n : List ℕ) → F.holds files.new n ≡ F.holds files.old n }
-    ensures ran { IfOk result (RunsOf (F.holds files.old) SOURCE_LIMIT (paths_of sites.now) turns) }
+    ensures ran { IfOk result (RunsOf (F.holds files.old) SOURCE_LIMIT (paths_of sites.now) order.turns order.links) }
     ensures only { IfErr result IsSourceRefusal }
     ensures read_fault { IfErr result (λ cause. IfReadFault cause (IsFaultAt (F.holds files.old) SOURCE_LIMIT (PathRose (F.faults files.old) (F.faults files.new)) (paths_of sites.now))) }
     ensures too_long { IfErr result (λ cause. IfTooLong cause (IsTooLongAt (F.holds files.old) SOURCE_LIMIT (paths_of sites.now))) }
@@ -49,27 +107,36 @@ fn run_files<F: Files>(
         sources: _,
         program,
     } = accepted;
-    let Program {
-        names: _,
-        blocks,
-        codes,
-    } = program;
-    match play_program(alloc, &blocks, codes, turns) {
-        Ok(played) => Ok(played),
+    match run_program(rt, alloc, program, order, gate) {
+        Ok(ran) => Ok(ran),
         Err(_) => Err(Cause::NoMemory),
     }
 }
 
-/// What stands behind the output where the journal is asked for.
-fn journal_part(alloc: Global, wanted: bool, journal: &Journal) -> Result<Vec<u8>, NoMemory>
-    ensures { IfOk result (λ text. text.items ≡ journal_part wanted (shown journal.now)) }
+/// Appends the journal, where it is wanted.
+fn write_journal_part(text: &mut Vec<u8>, alloc: Global, wanted: bool, journal: &Journal) -> Result<(), NoMemory>
+    ensures { OnOk result (text.new.items ≡ text.old.items ++ journal_part wanted (shown journal.now)) }
 {
     if !wanted {
-        return Ok(Vec::new(alloc));
+        return Ok(());
     }
     let lines = write_journal(alloc, journal)?;
-    let mut text = Vec::from_slice(alloc, b"== journal ==\n")?;
+    text.extend_from_slice(b"== journal ==\n")?;
     text.extend_from_slice(&lines)?;
+    Ok(())
+}
+
+/// What stands behind the threads in the output of a run.
+fn text_behind(
+    alloc: Global,
+    order: RunOrder,
+    sites: &[SiteWord],
+    ran: &Ran,
+) -> Result<Vec<u8>, NoMemory>
+    ensures { IfOk result (λ text. text.items ≡ behind_threads order.links order.journal (names_of sites.now) ran.now) }
+{
+    let mut text = links_part(alloc, order.links, sites, &ran.links)?;
+    write_journal_part(&mut text, alloc, order.journal, &ran.played.journal)?;
     Ok(text)
 }
 
@@ -106,16 +173,17 @@ fn finish<O: Sink, E: Sink>(
     }
 }
 
-/// Runs the sources of the sites, each thread with at most so many turns, and writes what they wrote
-/// to `out`, with the journal behind it where it is wanted; or tells on `err` why they don't run.
-pub fn run_sites<F: Files, O: Sink, E: Sink>(
+/// Runs the sources of the sites as the order says, and writes what they wrote to `out`, with the table of
+/// links and the journal behind it where they are wanted; or tells on `err` why they don't run.
+pub fn run_sites<R: Threads + Wait + Sync, F: Files, O: Sink, E: Sink, G: Gate>(
+    rt: &R,
     alloc: Global,
     sites: &[SiteWord],
-    turns: u32,
-    wanted: bool,
+    order: RunOrder,
     files: &mut F,
     out: &mut O,
     err: &mut E,
+    gate: &G,
 ) -> End
     requires { AreInForm sites.now }
 
@@ -127,9 +195,9 @@ pub fn run_sites<F: Files, O: Sink, E: Sink>(
     ensures write_fault { OnWriteFault result.cause (Rose (O.faults out.old) (O.faults out.new)) }
 
     // The journal is a history of the sources, and what is written is its output.
-    ensures ran { OnRan result.cause ((text : List ℕ) × IsRunOf (F.holds files.old) SOURCE_LIMIT (names_of sites.now) (paths_of sites.now) turns wanted (shown result.journal) text result.status
+    ensures ran { OnRan result.cause ((text : List ℕ) × IsRunOf (F.holds files.old) SOURCE_LIMIT (names_of sites.now) (paths_of sites.now) order.turns order.links order.journal (shown result.journal) text result.status
         × Appends (O.written out.old) (O.written out.new) text) }
-    ensures part { OnWriteFault result.cause ((text : List ℕ) × (ended : ℕ) × IsRunOf (F.holds files.old) SOURCE_LIMIT (names_of sites.now) (paths_of sites.now) turns wanted (shown result.journal) text ended
+    ensures part { OnWriteFault result.cause ((text : List ℕ) × (ended : ℕ) × IsRunOf (F.holds files.old) SOURCE_LIMIT (names_of sites.now) (paths_of sites.now) order.turns order.links order.journal (shown result.journal) text ended
         × GetsPrefix (O.written out.old) (O.written out.new) text) }
     ensures status { HasStatus result.cause result.status }
     ensures completes { RunCompletes (F.holds files.old) SOURCE_LIMIT (paths_of sites.now) (PathRose (F.faults files.old) (F.faults files.new)) (Rose (O.faults out.old) (O.faults out.new)) result.cause }
@@ -143,12 +211,12 @@ pub fn run_sites<F: Files, O: Sink, E: Sink>(
     ensures quiet { OnRan result.cause (err.new ≡ err.old) }
     ensures same { (n : List ℕ) → F.holds files.new n ≡ F.holds files.old n }
 {
-    let played = match run_files(alloc, files, sites, turns) {
-        Ok(played) => played,
+    let ran = match run_files(rt, alloc, files, sites, order, gate) {
+        Ok(ran) => ran,
         Err(cause) => return refuse(alloc, err, sites, cause),
     };
-    match journal_part(alloc, wanted, &played.journal) {
-        Ok(text) => finish(out, err, sites, played, &text),
+    match text_behind(alloc, order, sites, &ran) {
+        Ok(text) => finish(out, err, sites, ran.played, &text),
         Err(_) => refuse(alloc, err, sites, Cause::NoMemory),
     }
 }

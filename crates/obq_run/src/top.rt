@@ -103,7 +103,9 @@ pub fn obliq<R: Threads + Wait + Sync, F: Files, O: Sink, E: Sink, G: Gate>(
         Ok(
             Order::Run {
                 turns,
+                workers: _,
                 journal,
+                links: _,
                 sites,
             },
         ) => run_sites(alloc, &sites, turns, journal, files, out, err),

@@ -1,4 +1,4 @@
 pub mod InForm
 pub mod Numbers
+pub mod Ranges
 mod Rows
-pub mod Turns

@@ -1,6 +1,6 @@
 -- Command lines, and what the definition says of them.
 use Rattle.std.proofs.Common.{List, None, Some, [], codes, false, refl, true, ℕ, ◌++◌, ◌∷◌, ◌≡◌}
-use Rattle.obq_words.specs.CommandLine.{TooManyAt, UsageAt, bad_word, is_checking, is_replaying, journal_path, site_words, turns_of, wants_journal}
+use Rattle.obq_words.specs.CommandLine.{TooManyAt, UsageAt, bad_word, is_checking, is_replaying, journal_path, site_words, turns_of, wants_journal, wants_links, workers_of}
 use Rattle.obq_words.specs.Words.{given_names, given_paths}
 
 -- a site that may stand
@@ -51,11 +51,35 @@ option_behind_a_site = refl
 links_behind_a_site : bad_word (codes "run" ∷ a_site ∷ codes "--links" ∷ []) ≡ Some (UsageAt 2)
 links_behind_a_site = refl
 
-no_links_yet : bad_word (codes "run" ∷ codes "--links" ∷ a_site ∷ []) ≡ Some (UsageAt 1)
-no_links_yet = refl
+no_workers : bad_word (codes "run" ∷ codes "--workers" ∷ codes "0" ∷ a_site ∷ []) ≡ Some (UsageAt 2)
+no_workers = refl
 
-no_workers_yet : bad_word (codes "run" ∷ codes "--workers" ∷ codes "2" ∷ a_site ∷ []) ≡ Some (UsageAt 1)
-no_workers_yet = refl
+too_many_workers : bad_word (codes "run" ∷ codes "--workers" ∷ codes "17" ∷ a_site ∷ []) ≡ Some (UsageAt 2)
+too_many_workers = refl
+
+workers_with_a_leading_zero : bad_word (codes "run" ∷ codes "--workers" ∷ codes "02" ∷ a_site ∷ []) ≡ Some (UsageAt 2)
+workers_with_a_leading_zero = refl
+
+a_site_for_the_workers : bad_word (codes "run" ∷ codes "--workers" ∷ a_site ∷ []) ≡ Some (UsageAt 2)
+a_site_for_the_workers = refl
+
+an_option_for_the_workers : bad_word (codes "run" ∷ codes "--workers" ∷ codes "--links" ∷ a_site ∷ []) ≡ Some (UsageAt 2)
+an_option_for_the_workers = refl
+
+no_word_for_the_workers : bad_word (codes "run" ∷ codes "--links" ∷ codes "--workers" ∷ []) ≡ Some (UsageAt 3)
+no_word_for_the_workers = refl
+
+workers_twice : bad_word (codes "run" ∷ codes "--workers" ∷ codes "2" ∷ codes "--links" ∷ codes "--workers" ∷ codes "2" ∷ a_site ∷ []) ≡ Some (UsageAt 4)
+workers_twice = refl
+
+links_twice : bad_word (codes "run" ∷ codes "--links" ∷ codes "--links" ∷ a_site ∷ []) ≡ Some (UsageAt 2)
+links_twice = refl
+
+no_site_behind_all_options : bad_word (codes "run" ∷ codes "--links" ∷ codes "--workers" ∷ codes "2" ∷ codes "--journal" ∷ codes "--turns" ∷ codes "5" ∷ []) ≡ Some (UsageAt 7)
+no_site_behind_all_options = refl
+
+workers_behind_a_site : bad_word (codes "run" ∷ a_site ∷ codes "--workers" ∷ codes "2" ∷ []) ≡ Some (UsageAt 2)
+workers_behind_a_site = refl
 
 two_sites_of_one_name : bad_word (codes "run" ∷ a_site ∷ codes "A=b" ∷ []) ≡ Some (UsageAt 2)
 two_sites_of_one_name = refl
@@ -106,6 +130,9 @@ seventeenth_without_a_path = refl
 seventeen_behind_options : bad_word (codes "run" ∷ codes "--turns" ∷ codes "5" ∷ codes "--journal" ∷ (sixteen_sites ++ codes "Q=q" ∷ [])) ≡ Some (TooManyAt 20)
 seventeen_behind_options = refl
 
+seventeen_behind_all_options : bad_word (codes "run" ∷ codes "--links" ∷ codes "--turns" ∷ codes "5" ∷ codes "--workers" ∷ codes "16" ∷ codes "--journal" ∷ (sixteen_sites ++ codes "Q=q" ∷ [])) ≡ Some (TooManyAt 23)
+seventeen_behind_all_options = refl
+
 seventeen_behind_the_path : bad_word (codes "replay" ∷ codes "--from" ∷ codes "j" ∷ (sixteen_sites ++ codes "Q=q" ∷ [])) ≡ Some (TooManyAt 19)
 seventeen_behind_the_path = refl
 
@@ -132,8 +159,35 @@ journal_is_wanted = refl
 journal_is_not_wanted : wants_journal (codes "run" ∷ codes "--turns" ∷ codes "5" ∷ codes "J=--journal" ∷ []) ≡ false
 journal_is_not_wanted = refl
 
+most_workers : bad_word (codes "run" ∷ codes "--workers" ∷ codes "16" ∷ a_site ∷ []) ≡ None
+most_workers = refl
+
+least_workers : bad_word (codes "run" ∷ codes "--workers" ∷ codes "1" ∷ a_site ∷ []) ≡ None
+least_workers = refl
+
+workers_are_said : workers_of (codes "run" ∷ codes "--links" ∷ codes "--workers" ∷ codes "16" ∷ codes "--turns" ∷ codes "5" ∷ a_site ∷ []) ≡ 16
+workers_are_said = refl
+
+default_workers : workers_of (codes "run" ∷ codes "--turns" ∷ codes "5" ∷ a_site ∷ []) ≡ 2
+default_workers = refl
+
+turns_between_others : turns_of (codes "run" ∷ codes "--links" ∷ codes "--workers" ∷ codes "16" ∷ codes "--turns" ∷ codes "5" ∷ a_site ∷ []) ≡ 5
+turns_between_others = refl
+
+links_are_wanted : wants_links (codes "run" ∷ codes "--workers" ∷ codes "1" ∷ codes "--links" ∷ codes "--journal" ∷ a_site ∷ []) ≡ true
+links_are_wanted = refl
+
+links_are_not_wanted : wants_links (codes "run" ∷ codes "--workers" ∷ codes "1" ∷ codes "--journal" ∷ a_site ∷ []) ≡ false
+links_are_not_wanted = refl
+
+journal_behind_links : wants_journal (codes "run" ∷ codes "--workers" ∷ codes "1" ∷ codes "--links" ∷ codes "--journal" ∷ a_site ∷ []) ≡ true
+journal_behind_links = refl
+
 sites_behind_options : site_words (codes "run" ∷ codes "--turns" ∷ codes "5" ∷ codes "--journal" ∷ a_site ∷ codes "E=e" ∷ []) ≡ a_site ∷ codes "E=e" ∷ []
 sites_behind_options = refl
+
+sites_behind_all_options : site_words (codes "run" ∷ codes "--links" ∷ codes "--turns" ∷ codes "5" ∷ codes "--workers" ∷ codes "3" ∷ codes "--journal" ∷ a_site ∷ codes "E=e" ∷ []) ≡ a_site ∷ codes "E=e" ∷ []
+sites_behind_all_options = refl
 
 names_behind_options : given_names (codes "run" ∷ codes "--journal" ∷ a_site ∷ codes "E=e=f" ∷ []) ≡ codes "A" ∷ codes "E" ∷ []
 names_behind_options = refl

@@ -2,10 +2,11 @@
 use Rattle.std.specs.Prelude.{Bool, List, None, Option, Some, [], bytes_eq, codes, false, if◌then◌else◌, is_none, length, nat_le, nat_lt, not, suc, true, unwrap_or, ℕ, ◌&&◌, ◌++◌, ◌==◌, ◌||◌, ◌∷◌}
 use Rattle.std.specs.Char.{is_ascii_alphabetic, is_ascii_alphanumeric}
 use Rattle.std.specs.List.{after_first, before_first, list_all, position_or_len}
-use Rattle.obq_base.specs.declared.limits.TheConstants.{DEFAULT_TURNS, TURN_LIMIT}
+use Rattle.obq_base.specs.declared.limits.TheConstants.{DEFAULT_TURNS, TURN_LIMIT, WORKER_LIMIT}
 use Rattle.obq_model.specs.JournalText.{number_from}
 use Rattle.obq_model.specs.Put.{among}
 use Rattle.obq_words.specs.declared.options.RunOptions.{RunOptions}
+use Rattle.obq_words.specs.declared.options.TheConstants.{DEFAULT_WORKERS}
 
 -- ---- commands
 
@@ -81,15 +82,25 @@ bad_sites k (word ∷ words) = bad_behind_sites k [] (word ∷ words)
 abbrev pub is_turns : List ℕ → Bool
 is_turns word = bytes_eq word (codes "--turns")
 
+abbrev pub is_workers : List ℕ → Bool
+is_workers word = bytes_eq word (codes "--workers")
+
 abbrev pub is_journal : List ℕ → Bool
 is_journal word = bytes_eq word (codes "--journal")
+
+abbrev pub is_links : List ℕ → Bool
+is_links word = bytes_eq word (codes "--links")
 
 -- the turns that a word says
 abbrev pub turns_in : List ℕ → Option ℕ
 turns_in word = number_from 1 TURN_LIMIT word
 
+-- the workers that a word says
+abbrev pub workers_in : List ℕ → Option ℕ
+workers_in word = number_from 1 WORKER_LIMIT word
+
 abbrev pub no_options : RunOptions
-no_options = record { turns = None; journal = false }
+no_options = record { turns = None; workers = None; journal = false; links = false }
 
 -- what may stand next
 pub data Expected : Type 0 where
@@ -101,11 +112,16 @@ pub data Expected : Type 0 where
 abbrev pub with_turns : RunOptions → List ℕ → Option RunOptions
 with_turns options word = elim (turns_in word) [ None ↦ None | Some turns ↦ Some (record options { turns = Some turns }) ]
 
+abbrev pub with_workers : RunOptions → List ℕ → Option RunOptions
+with_workers options word = elim (workers_in word) [ None ↦ None | Some workers ↦ Some (record options { workers = Some workers }) ]
+
 -- what may stand behind this word, where it is an option that wasn't given yet; each option has a line
 abbrev pub behind_option : RunOptions → List ℕ → Option Expected
 behind_option options word =
     if is_turns word && is_none options.turns then Some (WordOfOption (with_turns options))
+    else if is_workers word && is_none options.workers then Some (WordOfOption (with_workers options))
     else if is_journal word && not options.journal then Some (OptionOrSite (record options { journal = true }))
+    else if is_links word && not options.links then Some (OptionOrSite (record options { links = true }))
     else None
 
 -- what words behind `run` come to
@@ -185,9 +201,17 @@ options_of (command ∷ words) = if is_run command then options_in (behind_run w
 abbrev pub turns_of : List (List ℕ) → ℕ
 turns_of words = unwrap_or (options_of words).turns DEFAULT_TURNS
 
+-- how many workers run the threads
+abbrev pub workers_of : List (List ℕ) → ℕ
+workers_of words = unwrap_or (options_of words).workers DEFAULT_WORKERS
+
 -- whether the journal is printed, too
 abbrev pub wants_journal : List (List ℕ) → Bool
 wants_journal words = (options_of words).journal
+
+-- whether the links are printed, too
+abbrev pub wants_links : List (List ℕ) → Bool
+wants_links words = (options_of words).links
 
 -- the path of the journal that `replay` reads
 abbrev pub journal_path : List (List ℕ) → List ℕ

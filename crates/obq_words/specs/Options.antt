@@ -11,4 +11,4 @@ open_flag false = 1
 open_flag true = 0
 
 abbrev pub words_open : RunOptions → ℕ
-words_open options = open_number options.turns + open_flag options.journal
+words_open options = open_number options.turns + open_number options.workers + open_flag options.journal + open_flag options.links

@@ -3,7 +3,7 @@ use Rattle.std.specs.Prelude.{Err, List, None, Ok, Option, Result, Some, String,
 use Rattle.std.specs.List.{IsDistinct, list_all}
 use Rattle.std.specs.declared.alloc.Global.{Global}
 use Rattle.std.specs.String.{string_bytes}
-use Rattle.obq_words.specs.CommandLine.{BadAt, RunWords, Sites, TooManyAt, UsageAt, WordFault, bad_sites, bad_word, is_checking, is_replaying, is_site_name, journal_path, name_part, path_part, site_words, turns_of, wants_journal}
+use Rattle.obq_words.specs.CommandLine.{BadAt, RunWords, Sites, TooManyAt, UsageAt, WordFault, bad_sites, bad_word, is_checking, is_replaying, is_site_name, journal_path, name_part, path_part, site_words, turns_of, wants_journal, wants_links, workers_of}
 use Rattle.obq_words.specs.declared.options.OptionsRead.{OptionsRead}
 use Rattle.obq_words.specs.declared.words.Order.{Order}
 use Rattle.obq_words.specs.declared.words.Order.TheVariants.{Check, Replay, Run}
@@ -71,8 +71,9 @@ ReadsOptions words (Err word) = words ≡ BadAt word
 
 -- what reading the words answers: the command with what stood behind it, or exactly the first word that can't stand
 abbrev pub Answers : List (List ℕ) → Result Order WordsRefused → Type 0
-Answers words (Ok (Run turns journal sites)) =
-    (bad_word words ≡ None) × (is_checking words ≡ false) × (is_replaying words ≡ false) × (turns ≡ turns_of words) × (journal ≡ wants_journal words)
+Answers words (Ok (Run turns workers journal links sites)) =
+    (bad_word words ≡ None) × (is_checking words ≡ false) × (is_replaying words ≡ false) × (turns ≡ turns_of words)
+    × (workers ≡ workers_of words) × (1 ≤ workers) × (workers ≤ 16) × (journal ≡ wants_journal words) × (links ≡ wants_links words)
     × AreSites words sites.items
 Answers words (Ok (Check sites)) = (bad_word words ≡ None) × (is_checking words ≡ true) × AreSites words sites.items × (is_replaying words ≡ false)
 Answers words (Ok (Replay from sites)) =

@@ -6,4 +6,5 @@ mod options;
 mod sites;
 mod words;
 
+pub use options::DEFAULT_WORKERS;
 pub use words::{Order, SiteWord, WordsRefused, read_words};

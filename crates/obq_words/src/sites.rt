@@ -74,7 +74,7 @@ fn can_stand(word: &str, earlier: &[String]) -> bool
 /// Finds the first of the words that can't stand in its place, where the sites begin at the word of
 /// this number.
 fn check_sites(place: u32, words: &[String]) -> Result<(), WordsRefused>
-    requires { place ≤ 4 }
+    requires { place ≤ 7 }
     ensures { MatchResult result (λ _. bad_sites place (bytes_of words.now) ≡ None) (λ refused. TellsWord (bad_sites place (bytes_of words.now)) refused) }
 {
     if words.is_empty() {
@@ -126,7 +126,7 @@ pub fn read_sites(
     place: u32,
     words: &[String],
 ) -> Result<Vec<SiteWord>, WordsRefused>
-    requires { place ≤ 4 }
+    requires { place ≤ 7 }
     ensures { GivesSites place (bytes_of words.now) result }
 {
     check_sites(place, words)?;

@@ -3,7 +3,7 @@
 ghost use Rattle.std.specs.Prelude.{◌∷◌, codes};
 ghost use Rattle.obq_words.specs.Words.{Answers, bytes_of};
 
-use crate::options::{RunOptions, read_options};
+use crate::options::{DEFAULT_WORKERS, RunOptions, read_options};
 use crate::sites::read_sites;
 use obq_base::Name;
 use obq_base::limits::DEFAULT_TURNS;
@@ -19,11 +19,13 @@ pub struct SiteWord {
 /// What a command line asks for.
 #[derive(Drop)]
 pub enum Order {
-    /// Runs the sources with so many turns for each thread, and prints the journal too where it is
-    /// wanted.
+    /// Runs the sources by so many workers, with so many turns for each thread, and prints the journal
+    /// and the links too where they are wanted.
     Run {
         turns: u32,
+        workers: u32,
         journal: bool,
+        links: bool,
         sites: Vec<SiteWord>,
     },
     /// Examines the sources.
@@ -53,7 +55,9 @@ fn read_run(alloc: Global, words: &[String]) -> Result<Order, WordsRefused>
 {
     let none = RunOptions {
         turns: None,
+        workers: None,
         journal: false,
+        links: false,
     };
     let read = match read_options(none, 1, words) {
         Ok(read) => read,
@@ -62,7 +66,9 @@ fn read_run(alloc: Global, words: &[String]) -> Result<Order, WordsRefused>
     let sites = read_sites(alloc, read.place, read.words)?;
     Ok(Order::Run {
         turns: read.options.turns.unwrap_or(DEFAULT_TURNS),
+        workers: read.options.workers.unwrap_or(DEFAULT_WORKERS),
         journal: read.options.journal,
+        links: read.options.links,
         sites,
     })
 }

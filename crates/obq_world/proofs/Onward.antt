@@ -247,3 +247,11 @@ turns_more old new before more = subst TakeTurns (sym more.1) (longer old before
     longer : (es : List Entry) → TakeTurns es → TakeTurns (es ++ more.0 ∷ [])
     longer [] h = (more.2, tt)
     longer (e ∷ es) h = (h.0, longer es h.1)
+
+-- each entry takes a turn behind what a thread did, too
+pub turns_noted : (slots slots2 : List ThreadSlot) (journal journal2 : List Entry) (cells t count : ℕ) (gone : Gone) → TakeTurns journal → IsNoted slots journal cells t gone slots2 journal2 count → TakeTurns journal2
+turns_noted slots slots2 journal journal2 cells t count gone before noted = by (same_or (turns_of gone) 0)
+  where
+    by : ((turns_of gone ≡ 0) ⊎ (turns_of gone ≡ 0 → ⊥)) → TakeTurns journal2
+    by (inl none) = subst TakeTurns (same_journal journal t gone none ∙ sym noted.journal_is) before
+    by (inr some) = turns_more journal journal2 before (takes_more slots slots2 journal journal2 cells t count gone noted some)

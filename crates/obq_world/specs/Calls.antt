@@ -1,5 +1,5 @@
 -- What the calls of a World do.
-use Rattle.std.specs.Prelude.{All, List, Some, false, slice_get, ℕ, ◌≡◌, ◌≤◌, ◌⊎◌}
+use Rattle.std.specs.Prelude.{All, List, length, Some, false, slice_get, ℕ, ◌≡◌, ◌≤◌, ◌⊎◌}
 use Rattle.obq_base.specs.Tree.{BlockTree}
 use Rattle.obq_base.specs.declared.acts.Entry.{Entry}
 use Rattle.obq_world.specs.Acts.{WaitsHere}
@@ -27,5 +27,5 @@ NobodyClaims slots = All (λ s. s.claimed ≡ false) slots
 -- one entry more; or nothing changed, as where no thread can go the run is over
 abbrev pub AdvanceCases : {C W S J : Type 0} → List BlockTree → (turns : ℕ) → (journal : List Entry) → Advanced J S C W → Type 0
 AdvanceCases blocks turns journal (advanced.Went w) = TakesMore journal w.journal
-AdvanceCases blocks turns journal (advanced.Over w) = (w.journal ≡ journal) × EndsOver blocks turns journal
+AdvanceCases blocks turns journal (advanced.Over w seen) = (w.journal ≡ journal) × EndsOver blocks turns journal × (seen ≡ length journal)
 AdvanceCases blocks turns journal (advanced.Claimed w) = w.journal ≡ journal

@@ -13,37 +13,11 @@ use crate::lending::{Lends, Ran};
 use crate::machine::{Machine, Refused};
 use crate::naming::Naming;
 use crate::parts::{any_claim, first_able, is_wanted, spent};
+use crate::seen::Seen;
 use crate::slots::ThreadSlot;
 use crate::world::World;
 use obq_base::{NoMemory, ThreadId};
-use std::marker::{Model, PhantomData};
-
-/// Tells that `pick` found the run over, at a journal of so many entries.
-#[derive(Drop)]
-pub struct Seen<J: Naming> {
-    entries: u64,
-    of: PhantomData<J>,
-}
-
-impl<J: Naming> Model for Seen<J> {
-    ghost use Rattle.std.specs.Prelude.{ℕ};
-    ghost use Rattle.obq_world.specs.State.{WasOver};
-
-    ghost Value = { ℕ };
-
-    ghost view = { λ s. s.entries };
-
-    ghost invariant = { λ s. WasOver J.program J.turns s.entries };
-}
-
-impl<J: Naming> Seen<J> {
-    /// How many entries the journal had.
-    pub fn entries(&self) -> u64
-        ensures { result ≡ self.now }
-    {
-        self.entries
-    }
-}
+use std::marker::PhantomData;
 
 /// What a worker does next.
 #[derive(Drop)]
@@ -217,7 +191,9 @@ impl<J: Naming, M: Lends<J>> World<J, M> {
             of: PhantomData,
         })
     }
+}
 
+impl<J: Naming, M: Machine<J>> World<J, M> {
     /// The claim on the thread is out no more.
     pub fn give_back(&mut self, thread: ThreadId)
         ensures journal { self.new.journal ≡ self.old.journal }

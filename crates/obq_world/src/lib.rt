@@ -10,13 +10,15 @@ mod naming;
 mod parts;
 mod reports;
 mod running;
+mod seen;
 mod slots;
 mod world;
 
-pub use claiming::{Committed, Picked, Seen};
+pub use claiming::{Committed, Picked};
 pub use claims::{Claim, Done, Work};
 pub use lending::{Lends, Ran};
 pub use machine::{HowEnded, Machine, Made, Refused, Slice, Stop, Tried};
 pub use naming::Naming;
-pub use running::{Ended, run_alone};
+pub use running::{Ended, run_on};
+pub use seen::Seen;
 pub use world::{Advanced, World};

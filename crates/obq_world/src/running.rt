@@ -1,14 +1,14 @@
-//! A whole run at one site.
+//! The end of a run at one site.
 
-ghost use Rattle.std.specs.Prelude.{◌≡◌, ◌≤◌, IfOk, length};
-ghost use Rattle.obq_model.specs.Replay.{TakeTurns};
+ghost use Rattle.std.specs.Prelude.{IfOk};
 ghost use Rattle.obq_world.specs.Ends.{IsEndOf};
 ghost use Rattle.obq_world.specs.State.{EndsOver};
 
 use crate::machine::{Machine, Refused};
 use crate::naming::Naming;
 use crate::world::{Advanced, World};
-use obq_base::Report;
+use obq_base::limits::THREAD_LIMIT;
+use obq_base::{Report, ThreadId};
 use obq_journal::Journal;
 use std::alloc::Global;
 
@@ -23,7 +23,6 @@ pub struct Ended {
 /// What a World tells where it is over.
 fn tell_end<J: Naming, M: Machine<J>>(alloc: Global, world: World<J, M>) -> Result<Ended, Refused>
     requires over { EndsOver J.program J.turns world.journal }
-    requires each { TakeTurns world.journal }
     ensures { IfOk result (IsEndOf J.program J.turns) }
 {
     let Some(written) = world.output(0) else {
@@ -39,23 +38,27 @@ fn tell_end<J: Naming, M: Machine<J>>(alloc: Global, world: World<J, M>) -> Resu
     })
 }
 
-/// Runs a program of one source until no thread can go on. In each turn of the run a thread does at most so many pure steps.
-pub fn run_alone<J: Naming, M: Machine<J>>(
+/// No claim is out any more.
+fn end_claims<J: Naming, M: Machine<J>>(world: &mut World<J, M>) {
+    for thread in 0..THREAD_LIMIT {
+        world.give_back(ThreadId(thread));
+    }
+}
+
+/// Goes on with a World until no thread can go on, whatever claims were out. In each turn of the run a thread does at most so many pure steps.
+pub fn run_on<J: Naming, M: Machine<J>>(
     alloc: Global,
-    codes: M::Codes,
-    turns: u32,
+    world: World<J, M>,
     most: u32,
 ) -> Result<Ended, Refused>
-    requires codes { M.meaning.are_codes codes }
-    requires sites { (length J.program ≡ J.sites) × (J.sites ≡ 1) }
-    requires turns { (turns ≡ J.turns) × (turns ≤ 1000000) }
     ensures { IfOk result (IsEndOf J.program J.turns) }
 {
-    let mut world: World<J, M> = World::begin(alloc, codes, turns)?;
+    let mut world = world;
+    end_claims(&mut world);
     for _ in 0..u64::MAX {
         match world.advance(most)? {
             Advanced::Went(next) => world = next,
-            Advanced::Over(last) => return tell_end(alloc, last),
+            Advanced::Over(last, _) => return tell_end(alloc, last),
             Advanced::Claimed(_) => return Err(Refused::Beyond),
         }
     }

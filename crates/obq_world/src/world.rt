@@ -1,6 +1,7 @@
 //! The World of a run: its site, its threads, and the journal of what they did.
 
 ghost use Rattle.std.specs.Prelude.{◌≡◌, ◌<◌, ◌≤◌, [], IfOk, IsTrue, MatchOption, length};
+ghost use Rattle.obq_model.specs.Replay.{TakeTurns};
 ghost use Rattle.obq_world.specs.Calls.{AdvanceCases};
 ghost use Rattle.obq_world.specs.Entries.{TakesMore};
 ghost use Rattle.obq_world.specs.Meaning.{IsRunning};
@@ -12,6 +13,7 @@ use crate::machine::{Machine, Refused};
 use crate::naming::Naming;
 use crate::parts::{all_stopped, any_claim, next_able};
 use crate::reports::report_of;
+use crate::seen::Seen;
 use crate::slots::ThreadSlot;
 use obq_base::{NoMemory, Report, ThreadId};
 use obq_journal::Journal;
@@ -34,13 +36,14 @@ pub struct World<J: Naming, M: Machine<J>> {
 
 impl<J: Naming, M: Machine<J>> Model for World<J, M> {
     ghost use Rattle.std.specs.Prelude.{◌≡◌};
+    ghost use Rattle.obq_model.specs.Replay.{TakeTurns};
     ghost use Rattle.obq_world.specs.State.{State, WorldStands};
 
     ghost Value = { State M };
 
     ghost view = { λ w. record { site = w.site; slots = w.slots.items; cells = w.cells; journal = w.journal.entries } };
 
-    ghost invariant = { λ w. WorldStands M.meaning J.program J.turns (record { site = w.site; slots = w.slots.items; cells = w.cells; journal = w.journal.entries }) × (w.journal.turns ≡ J.turns) × M.meaning.are_codes w.codes × (J.sites ≡ 1) };
+    ghost invariant = { λ w. WorldStands M.meaning J.program J.turns (record { site = w.site; slots = w.slots.items; cells = w.cells; journal = w.journal.entries }) × (w.journal.turns ≡ J.turns) × M.meaning.are_codes w.codes × (J.sites ≡ 1) × TakeTurns w.journal.entries };
 }
 
 /// What became of a World that was to advance.
@@ -49,7 +52,7 @@ pub enum Advanced<J: Naming, M: Machine<J>> {
     /// A thread went on.
     Went(World<J, M>),
     /// No thread can go.
-    Over(World<J, M>),
+    Over(World<J, M>, Seen<J>),
     /// Each thread that can go has a claim out.
     Claimed(World<J, M>),
 }
@@ -96,7 +99,11 @@ impl<J: Naming, M: Machine<J>> World<J, M> {
                 if any_claim(&self.slots) {
                     Ok(Advanced::Claimed(self))
                 } else {
-                    Ok(Advanced::Over(self))
+                    let seen = Seen {
+                        entries: self.journal.len(),
+                        of: PhantomData,
+                    };
+                    Ok(Advanced::Over(self, seen))
                 }
             }
         }
@@ -175,6 +182,7 @@ impl<J: Naming, M: Machine<J>> World<J, M> {
         ensures entries { result.entries ≡ self.journal }
         ensures turns { result.turns ≡ J.turns }
         ensures replays { Replays J.program J.turns result.entries }
+        ensures each { TakeTurns result.entries }
     {
         let World {
             alloc: _,

@@ -1,4 +1,5 @@
-use Rattle.std.proofs.Common.{ap, ◌∙◌}
+use Rattle.std.proofs.Common.{ap, subst, sym, ◌∙◌}
+use Rattle.obq_model.specs.Replay.{TakeTurns}
 use Rattle.obq_world.proofs.Begun.{on_begin}
 use Rattle.obq_world.proofs.world.World.begin.Goals as goal
 
@@ -9,4 +10,5 @@ invariant_of-result g c = (
   ap (λ j. j.turns) c.new.ensures ∙ c.requires.turns.0,
   c.requires.codes,
   c.requires.sites.1,
+  subst TakeTurns (sym (ap (λ j. j.entries) c.new.ensures)) tt,
 )

@@ -21,6 +21,7 @@ invariant_of-self g c =
       c.self.invariant.1,
       c.self.invariant.2,
       c.self.invariant.3,
+      c.self.invariant.4,
     )
 
 pub invariant_of-result-else-any_claim : goal.invariant_of-result-else-any_claim

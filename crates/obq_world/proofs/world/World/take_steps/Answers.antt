@@ -1,7 +1,7 @@
 use Rattle.std.proofs.Common.{arith, length, ◌≡◌, ◌∙◌}
 use Rattle.obq_world.specs.State.{State}
 use Rattle.obq_world.proofs.May.{few_cells, few_threads}
-use Rattle.obq_world.proofs.Onward.{may_go_there, stands_behind}
+use Rattle.obq_world.proofs.Onward.{may_go_there, stands_behind, turns_noted}
 use Rattle.obq_world.proofs.Taking.{left_for, steps_commit}
 use Rattle.obq_world.proofs.world.World.take_steps.Goals as goal
 
@@ -38,6 +38,7 @@ invariant_of-result g c =
       c.in_ok-cells.ensures.turns ∙ c.self.invariant.1,
       c.self.invariant.2,
       c.self.invariant.3,
+      turns_noted c.self.inside.slots.items c.note.new.slots.items c.self.inside.journal.entries c.note.new.journal.entries c.self.inside.cells c.args.thread.0 c.in_ok-cells.cells c.in_ok-gone.gone c.self.invariant.4 c.in_ok-cells.ensures.noted,
     )
 
 pub take_window-requires-clause-few : goal.take_window-requires-clause-few
