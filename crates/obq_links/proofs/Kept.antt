@@ -5,7 +5,7 @@ use Rattle.obq_model.specs.Config.{Config}
 use Rattle.obq_model.specs.Located.{Located, Message, Place, Here, AtCell, AtThread, AtNames, Trail, activations_of, after_act, entered_at, left_from, located_opening, message, site_at, site_here, thread_activations, turned}
 use Rattle.obq_model.specs.Terms.{Term}
 use Rattle.obq_links.specs.Tables.{Table, table_of, with_message}
-use Rattle.obq_links.specs.Sited.{Sited, Trailed, acted, asked, first_sited, site_in, sited_of, turned_at, with_messages, with_new, with_replies, with_trail}
+use Rattle.obq_links.specs.Sited.{Sited, Trailed, acted, asked, first_sited, numbers_of, site_in, sited_of, trailed, turned_at, with_messages, with_new, with_replies, with_trail}
 use Rattle.obq_links.specs.declared.numbers.Numbers.{Numbers}
 use Rattle.obq_links.proofs.Tallied.{table_empty, table_with}
 
@@ -15,10 +15,6 @@ pub opening_kept : (trees : List BlockTree) → first_sited (length trees) ≡ s
 opening_kept trees = ap (λ (table : Table). record (first_sited (length trees)) { requests = table; replies = table }) (table_empty (suc (length trees)))
 
 -- ---- trails
-
--- what is kept of a trail and its replies
-abbrev pub trailed : ℕ → Trail → Trailed
-trailed n tr = (tr.0, table_of (suc n) tr.1)
 
 left_kept : (n : ℕ) (tr : Trail) → (drop 1 tr.0, with_message (site_here tr.0) (site_here (drop 1 tr.0)) (table_of (suc n) tr.1)) ≡ trailed n (left_from tr)
 left_kept n tr = ap (λ (table : Table). let r : Trailed = (drop 1 tr.0, table) in r) (table_with (suc n) (site_here tr.0) (site_here (drop 1 tr.0)) tr.1)
@@ -47,10 +43,6 @@ site_kept n l here AtNames = refl
 by_stay : (n there here : ℕ) (ms : List Message) (b : Bool) → (if b then with_message there here (table_of n ms) else table_of n ms) ≡ table_of n ((if b then message there here else []) ++ ms)
 by_stay n there here ms true = table_with n there here ms
 by_stay n there here ms false = refl
-
--- the numbers of a configuration, one of whose threads has so many activations
-abbrev pub numbers_of : Config → ℕ → Numbers
-numbers_of k a = record { cells = length k.store.cells; threads = length k.threads; activations = a }
 
 -- an act whose turn leaves this trail and these replies
 abbrev after_turn : ℕ → ℕ → ℕ → Numbers → Numbers → Sited → Trailed → Sited

@@ -1,7 +1,8 @@
 -- A located configuration without its configuration, and with its messages counted.
-use Rattle.std.specs.Prelude.{List, [], drop, if◌then◌else◌, map, nat_lt, refl, slice_index_or, slice_set, suc, ℕ, ◌==◌, ◌∷◌}
+use Rattle.std.specs.Prelude.{List, [], drop, if◌then◌else◌, length, map, nat_lt, refl, slice_index_or, slice_set, suc, ℕ, ◌==◌, ◌∷◌}
 use Rattle.std.specs.Coded.{Coded, code_by, coded_list, coded_ℕ, coded×}
-use Rattle.obq_model.specs.Located.{Located, Place, Here, AtCell, AtThread, AtNames, first_sites, home_of, site_here, with_more}
+use Rattle.obq_model.specs.Config.{Config}
+use Rattle.obq_model.specs.Located.{Located, Trail, Place, Here, AtCell, AtThread, AtNames, first_sites, home_of, site_here, with_more}
 use Rattle.obq_links.specs.declared.numbers.Numbers.{Numbers}
 use Rattle.obq_links.specs.Tables.{Table, no_messages, table_of, with_message}
 
@@ -58,6 +59,10 @@ site_in s here AtNames = s.sites
 abbrev pub Trailed : Type 0
 Trailed = List ℕ × Table
 
+-- what is kept of a trail and its replies
+abbrev pub trailed : ℕ → Trail → Trailed
+trailed n tr = (tr.0, table_of (suc n) tr.1)
+
 -- an activation at this site is entered
 abbrev pub entered : ℕ → Trailed → Trailed
 entered site tr = (site ∷ tr.0, tr.1)
@@ -77,6 +82,10 @@ with_trail t trail s = record s { thread_sites = slice_set s.thread_sites t trai
 -- the replies so far are these
 abbrev pub with_replies : Table → Sited → Sited
 with_replies table s = record s { replies = table }
+
+-- the numbers of a configuration, one of whose threads has so many activations
+abbrev pub numbers_of : Config → ℕ → Numbers
+numbers_of k a = record { cells = length k.store.cells; threads = length k.threads; activations = a }
 
 -- an act that is asked for here and done there, which takes so many activations to so many
 abbrev pub with_messages : ℕ → ℕ → (before : ℕ) → (after : ℕ) → Sited → Sited
