@@ -5,6 +5,7 @@ ghost use Rattle.obq_base.specs.View.{block_tree};
 ghost use Rattle.obq_model.specs.Opening.{opening};
 ghost use Rattle.obq_model.specs.Replay.{first_able, output, report};
 ghost use Rattle.obq_plain.specs.PlainStates.{NextCases, TakeCases};
+ghost use Rattle.obq_plain.specs.Threads.{machine_of};
 
 use crate::machine::Machine;
 use crate::refusals::TakeRefused;
@@ -86,6 +87,14 @@ impl PlainRun {
         ensures { result ≡ report self.now.turns self.now.config }
     {
         self.machine.report(self.turns)
+    }
+
+    /// The machine.
+    pub(crate) fn machine(&self) -> &Machine
+        ensures config { machine_of result.now ≡ self.now.config }
+        ensures few { length result.now.threads.items ≤ 64 }
+    {
+        &self.machine
     }
 
     /// The number of sites.

@@ -66,7 +66,7 @@ fn step_on(alloc: Global, found: Found, most: u32) -> Result<Stepped, NoMemory>
 }
 
 /// What stands next in a term.
-fn find_in(alloc: Global, term: &Term) -> Result<Found, NoMemory>
+pub(crate) fn find_in(alloc: Global, term: &Term) -> Result<Found, NoMemory>
     ensures { IfOk result (λ found. found_of found ≡ step.find same_loc 0 step.no_self term.now) }
 {
     let term = copy_term(alloc, term)?;

@@ -42,7 +42,7 @@ fn into_next(found: Found) -> Option<Term>
 }
 
 /// The term behind a pure step of a term; none where another thing stands next.
-fn pure_step(alloc: Global, term: Term) -> Result<Option<Term>, NoMemory>
+pub(crate) fn pure_step(alloc: Global, term: Term) -> Result<Option<Term>, NoMemory>
     ensures { IfOk result (λ next. next ≡ step.pure same_loc term) }
 {
     let found = find(term, alloc)?;

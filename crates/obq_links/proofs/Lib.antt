@@ -1,0 +1,5 @@
+mod FirstSites
+pub mod Kept
+pub mod Linked
+mod Tallied
+mod Trailing

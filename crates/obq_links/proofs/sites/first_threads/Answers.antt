@@ -1,0 +1,8 @@
+use Rattle.std.proofs.Common.{[], map, refl, rules, ◌∷◌}
+use Rattle.obq_links.proofs.FirstSites.{onward}
+use Rattle.obq_links.proofs.sites.first_threads.Goals as goal
+
+pub loop-site-preserved : goal.loop-site-preserved
+loop-site-preserved c =
+    onward (map (λ s. s ∷ [])) (λ k. (k ∷ []) ∷ []) (λ k ks. refl) c.loop-site.site c.args.sites c.loop-site-test.true c.loop-site.threads.items c.push.new.self.items _ (search rules)
+    c.loop-site.invariant
