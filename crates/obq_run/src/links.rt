@@ -30,7 +30,10 @@ pub fn link_rows(
     if !wanted {
         return Ok(Vec::new(alloc));
     }
-    links_of(alloc, blocks, journal.turns(), journal.entries())
+    match links_of(alloc, blocks, journal.turns(), journal.entries())? {
+        Some(rows) => Ok(rows),
+        None => Ok(Vec::new(alloc)),
+    }
 }
 
 /// The name of a site of the table, of which the last is the name server.
