@@ -206,6 +206,9 @@ same_journal journal t gone none =
     let e = none_taken gone.steps (act_in gone.tried) none in
     rw e.1 (no_steps journal t gone.steps e.0)
 
+pub stays_noted : (slots slots2 : List ThreadSlot) (journal journal2 : List Entry) (cells t count : ℕ) (gone : Gone) → IsNoted slots journal cells t gone slots2 journal2 count → turns_of gone ≡ 0 → journal2 ≡ journal
+stays_noted slots slots2 journal journal2 cells t count gone noted none = noted.journal_is ∙ sym (same_journal journal t gone none)
+
 pub one_entry : (t n : ℕ) (a : Option Act) → (n + act_turns a ≡ 0 → ⊥) → entry_of t n a ∷ [] ≡ entries_of t n a
 one_entry t n (Some a) some = refl
 one_entry t n None some = some_steps t n (λ none. some (omega (arith, none)))

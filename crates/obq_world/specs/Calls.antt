@@ -9,6 +9,8 @@ use Rattle.obq_world.specs.State.{EndsOver}
 use Rattle.obq_world.specs.declared.slots.ThreadSlot.{ThreadSlot}
 use Rattle.obq_world.specs.declared.world.Advanced.{Advanced}
 use Rattle.obq_world.specs.declared.world.Advanced.TheVariants as advanced
+use Rattle.obq_world.specs.declared.world.Turn.{Turn}
+use Rattle.obq_world.specs.declared.world.Turn.TheVariants as turn
 
 -- the thread has no window here, no turn left, or waits
 abbrev pub IsStopped : {C W S : Type 0} → Meaning C W S → S → ThreadSlot → (turns : ℕ) → ℕ → Type 0
@@ -29,3 +31,8 @@ abbrev pub AdvanceCases : {C W S J : Type 0} → List BlockTree → (turns : ℕ
 AdvanceCases blocks turns journal (advanced.Went w) = TakesMore journal w.journal
 AdvanceCases blocks turns journal (advanced.Over w seen) = (w.journal ≡ journal) × EndsOver blocks turns journal × (seen ≡ length journal)
 AdvanceCases blocks turns journal (advanced.Claimed w) = w.journal ≡ journal
+
+-- the same of a turn, in which there may be no entry more
+abbrev pub TurnCases : {C W S J : Type 0} → List BlockTree → (turns : ℕ) → (journal : List Entry) → Turn J S C W → Type 0
+TurnCases blocks turns journal (turn.Came advanced) = AdvanceCases blocks turns journal advanced
+TurnCases blocks turns journal (turn.Waited w) = w.journal ≡ journal

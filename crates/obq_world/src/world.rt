@@ -2,8 +2,7 @@
 
 ghost use Rattle.std.specs.Prelude.{◌≡◌, ◌<◌, ◌≤◌, [], IfOk, IsTrue, MatchOption, length};
 ghost use Rattle.obq_model.specs.Replay.{TakeTurns};
-ghost use Rattle.obq_world.specs.Calls.{AdvanceCases};
-ghost use Rattle.obq_world.specs.Entries.{TakesMore};
+ghost use Rattle.obq_world.specs.Calls.{AdvanceCases, TurnCases};
 ghost use Rattle.obq_world.specs.Meaning.{IsRunning};
 ghost use Rattle.obq_world.specs.Reports.{Outputs, Reports};
 ghost use Rattle.obq_world.specs.State.{EndsOver, Replays};
@@ -15,6 +14,7 @@ use crate::parts::{all_stopped, any_claim, next_able};
 use crate::reports::report_of;
 use crate::seen::Seen;
 use crate::slots::ThreadSlot;
+use obq_base::limits::THREAD_LIMIT;
 use obq_base::{NoMemory, Report, ThreadId};
 use obq_journal::Journal;
 use std::alloc::Global;
@@ -57,6 +57,14 @@ pub enum Advanced<J: Naming, M: Machine<J>> {
     Claimed(World<J, M>),
 }
 
+/// What became of a World in a turn.
+#[derive(Drop)]
+pub(crate) enum Turn<J: Naming, M: Machine<J>> {
+    Came(Advanced<J, M>),
+    /// A thread was found to wait before it did anything. The journal is as it was.
+    Waited(World<J, M>),
+}
+
 impl<J: Naming, M: Machine<J>> World<J, M> {
     /// A World with no entries, whose thread stands at the beginning of the program.
     pub fn begin(alloc: Global, codes: M::Codes, turns: u32) -> Result<World<J, M>, NoMemory>
@@ -89,31 +97,43 @@ impl<J: Naming, M: Machine<J>> World<J, M> {
     pub fn advance(self, most: u32) -> Result<Advanced<J, M>, Refused>
         ensures { IfOk result (λ advanced. AdvanceCases J.program J.turns self.journal advanced) }
     {
+        let mut world = self;
+        for _ in 0..=THREAD_LIMIT {
+            match world.turn(most)? {
+                Turn::Came(advanced) => return Ok(advanced),
+                Turn::Waited(next) => world = next,
+            }
+        }
+        // A thread that was found to wait is known to: no more than all threads are.
+        Err(Refused::Beyond)
+    }
+
+    /// A thread that can go goes on, or is found to wait.
+    fn turn(self, most: u32) -> Result<Turn<J, M>, Refused>
+        ensures { IfOk result (λ turn. TurnCases J.program J.turns self.journal turn) }
+    {
         let from = self.next as usize;
         match next_able(&self.site, &self.slots, self.journal.turns(), from) {
-            Some(k) => {
-                let world = self.go(ThreadId(k as u32), most)?;
-                Ok(Advanced::Went(world))
-            }
+            Some(k) => self.go(ThreadId(k as u32), most),
             None => {
                 if any_claim(&self.slots) {
-                    Ok(Advanced::Claimed(self))
+                    Ok(Turn::Came(Advanced::Claimed(self)))
                 } else {
                     let seen = Seen {
                         entries: self.journal.len(),
                         of: PhantomData,
                     };
-                    Ok(Advanced::Over(self, seen))
+                    Ok(Turn::Came(Advanced::Over(self, seen)))
                 }
             }
         }
     }
 
-    /// A thread that is running goes on.
-    fn go(self, thread: ThreadId, most: u32) -> Result<World<J, M>, Refused>
+    /// A thread that is running goes on, or is found to wait.
+    fn go(self, thread: ThreadId, most: u32) -> Result<Turn<J, M>, Refused>
         requires running { IsRunning M.meaning self.site thread.0 }
         requires there { thread.0 < length self.slots }
-        ensures { IfOk result (λ w. TakesMore self.journal w.journal) }
+        ensures { IfOk result (λ turn. TurnCases J.program J.turns self.journal turn) }
     {
         let World {
             alloc,
@@ -136,11 +156,8 @@ impl<J: Naming, M: Machine<J>> World<J, M> {
             cells,
             slots.len() as u32,
         )?;
-        if turns_taken(gone) == 0 {
-            return Err(Refused::Beyond);
-        }
         let cells = note(&mut slots, cells, &mut journal, thread, gone)?;
-        Ok(World {
+        let world = World {
             alloc,
             site,
             slots,
@@ -149,7 +166,11 @@ impl<J: Naming, M: Machine<J>> World<J, M> {
             journal,
             next: thread.0.saturating_add(1),
             of: PhantomData,
-        })
+        };
+        if turns_taken(gone) == 0 {
+            return Ok(Turn::Waited(world));
+        }
+        Ok(Turn::Came(Advanced::Went(world)))
     }
 
     /// Whether no thread can go and no claim is out.

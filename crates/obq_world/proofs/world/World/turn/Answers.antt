@@ -2,7 +2,7 @@ use Rattle.std.proofs.Common.{arith, refl, ◌∙◌}
 use Rattle.obq_world.specs.State.{State}
 use Rattle.obq_world.proofs.Idle.{over_told, seen_over}
 use Rattle.obq_world.proofs.May.{few_threads}
-use Rattle.obq_world.proofs.world.World.advance.Goals as goal
+use Rattle.obq_world.proofs.world.World.turn.Goals as goal
 
 pub next_able-requires : goal.next_able-requires
 next_able-requires g c = rw c.deref.ensures.value (few_threads g.M.Machine.meaning g.J.Naming.program g.J.Naming.turns (record { site = c.self.inside.site; slots = c.self.inside.slots.items; cells = c.self.inside.cells; journal = c.self.inside.journal.entries }) c.self.invariant.0)
