@@ -1,5 +1,5 @@
 -- Requests of threads that wait at the end, and the table of links then.
-use Rattle.std.proofs.Common.{Bool, List, None, Option, Some, [], ap, append_assoc, arith, false, if◌then◌else◌, length, map, nat_lt, option_map, refl, slice_get, slice_index_or, subst, suc, sym, true, zero, ℕ, ◌+◌, ◌++◌, ◌∙◌, ◌∷◌, ◌≡◌}
+use Rattle.std.proofs.Common.{Bool, List, None, Option, Some, [], ap, append_assoc, arith, false, if◌then◌else◌, length, map, nat_lt, option_map, refl, slice_get, suc, sym, true, ℕ, ◌+◌, ◌++◌, ◌∙◌, ◌∷◌, ◌≡◌}
 use Rattle.std.proofs.lemmas.List.{length-map}
 use Rattle.obq_base.specs.declared.acts.Entry.{Entry}
 use Rattle.obq_base.specs.Tree.{BlockTree}
@@ -12,10 +12,9 @@ use Rattle.obq_links.specs.Sited.{Sited, first_sited, sited_of}
 use Rattle.obq_model.specs.Config.{Config, Execution, Failed, Returned, Running, ThreadState}
 use Rattle.obq_model.specs.Effect as f
 use Rattle.obq_model.specs.Effect.{Effect, Outcome, effect, effect_of, effect_of_state, perform}
-use Rattle.obq_model.specs.Located.{Link, Located, Message, Place, links, locate_from, located_opening, located_replay, message, place_in, place_of, site_at, site_here, waiting_request, waiting_requests, with_waiting}
+use Rattle.obq_model.specs.Located.{Link, Located, Message, Place, links, locate_from, located_opening, located_replay, place_in, place_of, waiting_request, waiting_requests, with_waiting}
 use Rattle.obq_model.specs.Step.{Done, Found, Frame, Needs, Next, Operation, Uncaught, find, no_self, self_at}
 use Rattle.obq_model.specs.Store.{same_loc}
-use Rattle.obq_model.specs.Terms.{Term}
 use Rattle.obq_plain.proofs.Followed.{both_of, run_followed}
 use Rattle.obq_plain.specs.Ahead.{act_of}
 use Rattle.obq_plain.specs.PlainStates.{PlainState}

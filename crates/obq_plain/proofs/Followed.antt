@@ -1,18 +1,18 @@
 -- A machine with its sites goes on as a located configuration does.
-use Rattle.std.proofs.Common.{Bool, List, None, Option, Some, [], ap, arith, false, if◌then◌else◌, length, nat_lt, option_map, refl, slice_get, slice_index_or, slice_set, suc, sym, true, unwrap_or, zero, ℕ, ◌+◌, ◌∙◌, ◌∷◌, ◌≡◌}
+use Rattle.std.proofs.Common.{Bool, List, None, Option, Some, [], ap, false, if◌then◌else◌, length, nat_lt, option_map, refl, slice_get, slice_index_or, slice_set, suc, sym, true, unwrap_or, zero, ℕ, ◌+◌, ◌∙◌, ◌∷◌, ◌≡◌}
 use Rattle.obq_base.specs.declared.acts.Act.{Act}
 use Rattle.obq_base.specs.declared.acts.Entry.{Entry}
 use Rattle.obq_base.specs.Tree.{BlockTree}
 use Rattle.obq_links.proofs.Kept.{act_kept, opening_kept, turn_kept}
-use Rattle.obq_links.specs.Sited.{Sited, Trailed, acted, first_sited, numbers_of, site_in, sited_of, trail_in, trailed, turned_at, with_replies, with_trail}
+use Rattle.obq_links.specs.Sited.{Sited, Trailed, acted, first_sited, numbers_of, site_in, sited_of, trailed, turned_at, with_replies, with_trail}
 use Rattle.obq_links.specs.Tables.{table_of}
 use Rattle.obq_model.specs.Config.{Config, Execution, Failed, Returned, Running, ThreadState}
 use Rattle.obq_model.specs.Located.{AtCell, AtNames, AtThread, Here, Located, Message, Place, Trail, activations_of, after_act, after_entry, after_steps, locate_entry, locate_execution, locate_from, located_opening, place_in, site_at, site_here, thread_activations, turned}
-use Rattle.obq_model.specs.Replay.{act_turns, after_pure, take_entry, take_execution, take_of, take_state}
+use Rattle.obq_model.specs.Replay.{act_turns, after_pure, take_entry, take_of, take_state}
 use Rattle.obq_model.specs.Step.{find, no_self, pure}
 use Rattle.obq_model.specs.Store.{same_loc}
 use Rattle.obq_model.specs.Terms.{Term}
-use Rattle.obq_plain.specs.Following.{Followed, acted_behind, all_followed, followed, followed_behind, followed_from, kept_behind, opened_plain, running_term, sites_behind, steps_on, taken}
+use Rattle.obq_plain.specs.Following.{Followed, all_followed, followed, followed_behind, followed_from, opened_plain, running_term, sites_behind, steps_on}
 use Rattle.obq_plain.specs.PlainStates.{PlainState}
 
 -- a located configuration of so many sites
@@ -52,7 +52,7 @@ sites_kept : (n : ℕ) (l : Located) (k : Config) (t : ℕ) (u : Term ℕ) (tr :
     → sites_behind l.config k t u tr.0 (with_replies (table_of (suc n) tr.1) (sited_of n l)) ≡ sited_of n (after_act l k t u tr (site_at n l (site_here tr.0) (place_in (find same_loc 0 no_self u))))
 sites_kept n l k t u tr =
     ap (λ there. acted t there (numbers_of l.config (activations_of u)) (numbers_of k (thread_activations k t)) tr.0 (with_replies (table_of (suc n) tr.1) (sited_of n l)))
-        (site_replied n l tr.1 (site_here tr.0) (place_in (find same_loc 0 no_self u)))
+    (site_replied n l tr.1 (site_here tr.0) (place_in (find same_loc 0 no_self u)))
     ∙ act_kept n l k t u tr (site_at n l (site_here tr.0) (place_in (find same_loc 0 no_self u)))
 
 -- ---- an entry

@@ -1,5 +1,5 @@
 -- Pure steps with sites beside them, and entries that aren't legal.
-use Rattle.std.proofs.Common.{Err, List, None, Option, Some, ap, false, is_none, is_some, option_map, refl, subst, suc, sym, true, true≢false, ℕ, ◌∙◌, ◌≡◌}
+use Rattle.std.proofs.Common.{Err, List, None, Option, Some, ap, false, is_none, is_some, option_map, refl, subst, suc, sym, true≢false, ℕ, ◌∙◌, ◌≡◌}
 use Rattle.obq_base.specs.declared.acts.Entry.{Entry}
 use Rattle.obq_laws.proofs.Refused.{why_not_law}
 use Rattle.obq_links.specs.Sited.{Sited, Trailed, turned_at, with_replies}

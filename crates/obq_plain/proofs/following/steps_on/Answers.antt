@@ -10,8 +10,8 @@ loop-preserved c =
     let many : m ≡ suc n = omega (arith, c.loop-test.true) in
     let step = sym c.in-Some.is ∙ c.in_ok-found.ensures in
     let moved =
-        turn_moved c.loop.term c.in-Some.next (c.loop.trail, c.loop.sites.replies) _ _ _ c.turn.new.trail c.loop.sites c.turn.new.self c.here-here.ensures c.loop.invariant.counted c.in_ok-after.ensures
-        c.in_ok-turn.ensures.trail c.in_ok-turn.ensures.sites in
+    turn_moved c.loop.term c.in-Some.next (c.loop.trail, c.loop.sites.replies) _ _ _ c.turn.new.trail c.loop.sites c.turn.new.self c.here-here.ensures c.loop.invariant.counted c.in_ok-after.ensures
+    c.in_ok-turn.ensures.trail c.in_ok-turn.ensures.sites in
     record {
       last = pure_next n m c.loop.term c.in-Some.next _ many step c.loop.invariant.last;
       onward = on_next n m c.loop.term c.in-Some.next (c.loop.trail, c.loop.sites.replies) _ _ many step moved c.loop.invariant.onward;

@@ -1,4 +1,3 @@
-use Rattle.std.proofs.Common.{sym}
 use Rattle.obq_plain.proofs.Stepped.{refused_not_taken}
 use Rattle.obq_plain.proofs.following.take.Goals as goal
 
