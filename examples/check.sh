@@ -64,6 +64,19 @@ for source in examples/guide/*.obq; do
     fi
 done
 
+# the same programs are cases of crates/obq_cases
+{
+    echo '# The programs of `examples/guide`.'
+    for source in examples/guide/*.obq; do
+        printf '\ncall run --journal A=a\nfile a\n'
+        sed 's/^/line /' "$source"
+    done
+} > "$folder/cases"
+if ! grep -v -e '^room ' -e '^limited$' -e '^replayed$' crates/obq_cases/data/guide | cmp -s - "$folder/cases"; then
+    echo "crates/obq_cases/data/guide: other programs than those of examples/guide"
+    status=1
+fi
+
 # ends STATUS LINE WORDS..: what a call with these words ends with, and tells
 ends() {
     wanted=$1 line=$2

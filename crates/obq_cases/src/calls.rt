@@ -21,6 +21,8 @@ pub enum Shown {
     Counted,
     /// How a run with its journal ended, and what the replay of that journal comes to.
     Replayed,
+    /// The same, and so of that run with few turns for each thread (`print_limits`).
+    Limited,
     /// How the call ends with each cut of its last file, and with each other byte at each place there.
     Changed,
 }
@@ -87,16 +89,44 @@ impl Call {
         }
     }
 
-    /// The same call with these bytes in its last file.
-    pub fn with_last(&self, alloc: Global, last: &[u8]) -> Result<Call, AllocError> {
+    /// Appends the files of another call.
+    fn add_files_of(&mut self, alloc: Global, other: &Call) -> Result<(), AllocError> {
+        for (path, bytes) in &other.files {
+            self.add_file(alloc, path.as_str())?;
+            self.add_bytes(1, bytes)?;
+        }
+        Ok(())
+    }
+
+    /// The same call, of which no file fails.
+    pub fn copied(&self, alloc: Global) -> Result<Call, AllocError> {
         let mut call = Call::new(alloc);
+        call.room = self.room;
         for word in &self.words {
             call.add_word(alloc, word.as_str())?;
         }
-        for (path, bytes) in &self.files {
-            call.add_file(alloc, path.as_str())?;
-            call.add_bytes(1, bytes)?;
+        call.add_files_of(alloc, self)?;
+        Ok(call)
+    }
+
+    /// The same run with so many turns for each thread.
+    pub fn with_turns(&self, alloc: Global, turns: u32) -> Result<Call, AllocError> {
+        let mut call = Call::new(alloc);
+        call.room = self.room;
+        for (place, word) in self.words.iter().enumerate() {
+            if place == 1 {
+                call.add_word(alloc, "--turns")?;
+                call.words.push(format!(in alloc; "{turns}")?)?;
+            }
+            call.add_word(alloc, word.as_str())?;
         }
+        call.add_files_of(alloc, self)?;
+        Ok(call)
+    }
+
+    /// The same call with these bytes in its last file.
+    pub fn with_last(&self, alloc: Global, last: &[u8]) -> Result<Call, AllocError> {
+        let mut call = self.copied(alloc)?;
         if let Some(file) = call.files.last_mut() {
             file.1.clear();
             file.1.extend_from_slice(last)?;
@@ -116,10 +146,7 @@ impl Call {
                 call.add_word(alloc, word.as_str())?;
             }
         }
-        for (path, bytes) in &self.files {
-            call.add_file(alloc, path.as_str())?;
-            call.add_bytes(1, bytes)?;
-        }
+        call.add_files_of(alloc, self)?;
         call.add_file(alloc, "journal")?;
         Ok(call)
     }
@@ -180,6 +207,7 @@ impl Call {
             b"brief" => self.shown = Shown::Brief,
             b"counted" => self.shown = Shown::Counted,
             b"replayed" => self.shown = Shown::Replayed,
+            b"limited" => self.shown = Shown::Limited,
             b"changed" => self.shown = Shown::Changed,
             _ => {}
         }

@@ -7,6 +7,7 @@
 mod calls;
 mod changes;
 mod rows;
+mod turns;
 
 use crate::calls::Call;
 use crate::rows::{print_call, print_row};

@@ -2,9 +2,10 @@
 
 use crate::calls::{Call, Outcome, Shown};
 use crate::changes::print_changes;
+use crate::turns::print_limits;
 use obq_base::NoMemory;
 use obq_run::Journal;
-use std::alloc::Global;
+use std::alloc::{AllocError, Global};
 use std::sync::Wait;
 use std::thread::Threads;
 use std::{io, str};
@@ -14,6 +15,12 @@ const SITES: [(&str, &str); 2] = [("A=a", "a"), ("E=e", "e")];
 
 fn text_of(bytes: &[u8]) -> &str {
     str::from_utf8(bytes).unwrap_or("no text")
+}
+
+/// What a run with its journal printed: its output, and the journal's text.
+pub fn output_and_journal(found: &Outcome) -> (&str, &str) {
+    let text = text_of(&found.out);
+    text.split_once("== journal ==\n").unwrap_or((text, ""))
 }
 
 fn print_journal(rt: &impl Print, journal: &Journal) -> io::Result<()> {
@@ -50,8 +57,7 @@ fn print_replay<R: Threads + Wait + Sync + Print>(
 ) -> io::Result<()> {
     let cause = &found.end.cause;
     let status = found.end.status;
-    let text = text_of(&found.out);
-    let (out, journal) = text.split_once("== journal ==\n").unwrap_or((text, ""));
+    let (out, journal) = output_and_journal(found);
     println!(rt; "    {cause:?}, status {status}")?;
     println!(rt; "    out {out:?}")?;
     let mut replay = replay;
@@ -60,6 +66,30 @@ fn print_replay<R: Threads + Wait + Sync + Print>(
     let cause = &again.end.cause;
     let is_same = text_of(&again.out) == out && again.end.status == status;
     println!(rt; "    {cause:?}, same text and status: {is_same}")
+}
+
+/// Prints the entries of a run with its journal, as a line of a case has them.
+fn print_entries(rt: &impl Print, alloc: Global, found: &Outcome) -> io::Result<()> {
+    let (_, journal) = output_and_journal(found);
+    let mut text = String::new(alloc);
+    for (k, entry) in journal.lines().skip(2).enumerate() {
+        if k > 0 {
+            text.push_str(", ")?;
+        }
+        text.push_str(entry)?;
+    }
+    println!(rt; "    entries {text}")
+}
+
+/// What came of a run with its journal, which is printed as by `print_replay`.
+fn played<R: Threads + Wait + Sync + Print>(
+    rt: &R,
+    alloc: Global,
+    call: &Call,
+) -> io::Result<Outcome> {
+    let found = outcome_of(rt, alloc, call.copied(alloc)?)?;
+    print_replay(rt, alloc, &found, call.replay(alloc)?)?;
+    Ok(found)
 }
 
 /// Prints how a call ended over sinks that keep the number of bytes alone.
@@ -90,7 +120,11 @@ fn print_brief(rt: &impl Print, found: &Outcome) -> io::Result<()> {
 }
 
 /// Makes the call over files and sinks in memory.
-fn outcome_of<R: Threads + Wait + Sync>(rt: &R, alloc: Global, call: Call) -> io::Result<Outcome> {
+pub fn outcome_of<R: Threads + Wait + Sync>(
+    rt: &R,
+    alloc: Global,
+    call: Call,
+) -> io::Result<Outcome> {
     match call.outcome(rt, alloc) {
         Ok(found) => Ok(found),
         Err(NoMemory) => Err(io::Error::from(io::ErrorKind::OutOfMemory)),
@@ -111,12 +145,32 @@ pub fn print_call<R: Threads + Wait + Sync + Print>(
             let replay = call.replay(alloc)?;
             print_replay(rt, alloc, &outcome_of(rt, alloc, call)?, replay)
         }
+        Shown::Limited => {
+            let found = played(rt, alloc, &call)?;
+            print_limits(rt, alloc, &call, &found.end.journal)
+        }
         Shown::Changed => print_changes(rt, alloc, &call),
     }
 }
 
-/// A command and its sources, with ` || ` between two, which are at the sites A and E, each behind the text `before`. Prints
-/// the row with the status, and what `out` and `err` got.
+/// The call of these words over these sources, with ` || ` between two, which are at the sites A and E, each behind the text
+/// `before`.
+fn call_of(alloc: Global, words: &[&str], before: &str, sources: &str) -> Result<Call, AllocError> {
+    let mut call = Call::new(alloc);
+    for word in words {
+        call.add_word(alloc, word)?;
+    }
+    for ((word, path), source) in SITES.iter().zip(sources.split(" || ")) {
+        call.add_word(alloc, word)?;
+        call.add_file(alloc, path)?;
+        call.add_bytes(1, before.as_bytes())?;
+        call.add_bytes(1, source.as_bytes())?;
+    }
+    Ok(call)
+}
+
+/// Prints a row, a word and sources behind it (`call_of`). The word `acts` is of a run whose journal is printed and replayed, also
+/// with few turns. Any other is a command: behind the row stand the status, and what `out` and `err` got.
 pub fn print_row<R: Threads + Wait + Sync + Print>(
     rt: &R,
     alloc: Global,
@@ -124,14 +178,14 @@ pub fn print_row<R: Threads + Wait + Sync + Print>(
     row: &str,
 ) -> io::Result<()> {
     let (command, sources) = row.split_once(' ').unwrap_or((row, ""));
-    let mut call = Call::new(alloc);
-    call.add_word(alloc, command)?;
-    for ((word, path), source) in SITES.iter().zip(sources.split(" || ")) {
-        call.add_word(alloc, word)?;
-        call.add_file(alloc, path)?;
-        call.add_bytes(1, before.as_bytes())?;
-        call.add_bytes(1, source.as_bytes())?;
+    if command == "acts" {
+        rt.println(row)?;
+        let call = call_of(alloc, &["run", "--journal"], before, sources)?;
+        let found = played(rt, alloc, &call)?;
+        print_entries(rt, alloc, &found)?;
+        return print_limits(rt, alloc, &call, &found.end.journal);
     }
+    let call = call_of(alloc, &[command], before, sources)?;
     let found = outcome_of(rt, alloc, call)?;
     let status = found.end.status;
     let out = text_of(&found.out);
