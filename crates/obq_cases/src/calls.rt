@@ -109,14 +109,19 @@ impl Call {
         Ok(call)
     }
 
-    /// The same run with so many turns for each thread.
-    pub fn with_turns(&self, alloc: Global, turns: u32) -> Result<Call, AllocError> {
+    /// The same run with an option more, which has a number.
+    pub fn with_number(
+        &self,
+        alloc: Global,
+        option: &str,
+        number: u32,
+    ) -> Result<Call, AllocError> {
         let mut call = Call::new(alloc);
         call.room = self.room;
         for (place, word) in self.words.iter().enumerate() {
             if place == 1 {
-                call.add_word(alloc, "--turns")?;
-                call.words.push(format!(in alloc; "{turns}")?)?;
+                call.add_word(alloc, option)?;
+                call.words.push(format!(in alloc; "{number}")?)?;
             }
             call.add_word(alloc, word.as_str())?;
         }

@@ -48,7 +48,7 @@ fn print_limit<R: Threads + Wait + Sync + Print>(
     call: &Call,
     turns: u32,
 ) -> io::Result<()> {
-    let found = outcome_of(rt, alloc, call.with_turns(alloc, turns)?)?;
+    let found = outcome_of(rt, alloc, call.with_number(alloc, "--turns", turns)?)?;
     let (out, _) = output_and_journal(&found);
     let cause = &found.end.cause;
     let status = found.end.status;
