@@ -1,8 +1,8 @@
 //! The table of links.
 
-ghost use Rattle.std.specs.Prelude.{IfOk, OnOk, [], map, suc, ◌++◌, ◌<◌, ◌^◌, ◌≡◌, ◌∷◌};
+ghost use Rattle.std.specs.Prelude.{IfOk, OnOk, ◌++◌, ◌≡◌};
 ghost use Rattle.obq_model.specs.Located.{first_sites};
-ghost use Rattle.obq_links.specs.Rows.{link_as, row_between, rows_among, rows_from, rows_of};
+ghost use Rattle.obq_links.specs.Rows.{row_between, rows_among, rows_from, rows_of};
 
 use crate::tallies::Tally;
 use obq_base::NoMemory;

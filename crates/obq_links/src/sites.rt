@@ -15,7 +15,8 @@ use obq_base::NoMemory;
 use std::alloc::Global;
 use std::marker::Model;
 
-/// The sites of cells, threads and activations, and how many requests and replies went from each site to each.
+/// The sites of cells, threads and activations, and how many requests and replies went from each site to each. A number of messages that 64 bits don't hold is told as
+/// want of memory, which spends the whole.
 #[derive(Drop)]
 pub struct Sites {
     sites: u16,

@@ -1,8 +1,7 @@
 //! How many messages went from each site to each.
 
-ghost use Rattle.std.specs.Prelude.{IfOk, OnOk, replicate, ◌≡◌, ◌<◌, length};
+ghost use Rattle.std.specs.Prelude.{IfOk, OnOk, replicate, slice_index_or, ◌≡◌};
 ghost use Rattle.obq_links.specs.Tables.{count_at, counted, counted_to, no_messages, with_message};
-ghost use Rattle.std.specs.Prelude.{slice_index_or};
 
 use obq_base::NoMemory;
 use std::alloc::Global;

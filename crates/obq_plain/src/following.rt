@@ -1,11 +1,11 @@
 //! A machine that runs a journal, with its sites beside it.
 
-ghost use Rattle.std.specs.Prelude.{IfOk, OnOk, Some, length, slice_get, option_map, ◌≡◌};
-ghost use Rattle.obq_links.specs.Sited.{Trailed, numbers_of, with_replies};
+ghost use Rattle.std.specs.Prelude.{IfOk, OnOk, slice_get, ◌≡◌};
+ghost use Rattle.obq_links.specs.Sited.{numbers_of, with_replies};
 ghost use Rattle.obq_model.specs.Located as model;
 ghost use Rattle.obq_model.specs.Replay as replay;
 ghost use Rattle.obq_plain.specs.Following.{acted_behind, all_followed, followed, followed_behind, followed_from, kept_behind, running_term, steps_on, taken, when};
-ghost use Rattle.obq_plain.specs.Threads.{execution_of, machine_of, thread_of};
+ghost use Rattle.obq_plain.specs.Threads.{machine_of};
 
 use crate::activations::activations_of;
 use crate::machine::Machine;

@@ -1,6 +1,6 @@
 //! Where operations are done.
 
-ghost use Rattle.std.specs.Prelude.{IfOk, option_map, ◌≡◌};
+ghost use Rattle.std.specs.Prelude.{IfOk, ◌≡◌};
 ghost use Rattle.obq_links.specs.Places.{place_as};
 ghost use Rattle.obq_model.specs.Located as model;
 ghost use Rattle.obq_model.specs.Step as step;

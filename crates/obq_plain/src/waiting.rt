@@ -2,9 +2,8 @@
 
 ghost use Rattle.std.specs.Prelude.{IfOk, OnOk, option_map, length, ◌≡◌, ◌≤◌};
 ghost use Rattle.obq_links.specs.Places.{place_as};
-ghost use Rattle.obq_model.specs.Config as config;
 ghost use Rattle.obq_plain.specs.Following.{all_asked, asked_at, place_waiting, waits_at};
-ghost use Rattle.obq_plain.specs.Threads.{execution_of, machine_of, thread_of};
+ghost use Rattle.obq_plain.specs.Threads.{execution_of, machine_of};
 ghost use Rattle.obq_reduce.specs.Founds.{found_of};
 
 use crate::ahead::act_ahead;
