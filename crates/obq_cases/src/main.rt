@@ -8,7 +8,6 @@ mod calls;
 mod changes;
 mod rows;
 mod turns;
-mod workers;
 
 use crate::calls::Call;
 use crate::rows::{print_call, print_row};

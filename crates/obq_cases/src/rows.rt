@@ -3,7 +3,6 @@
 use crate::calls::{Call, Outcome, Shown};
 use crate::changes::print_changes;
 use crate::turns::print_limits;
-use crate::workers::print_workers;
 use obq_base::NoMemory;
 use obq_run::Journal;
 use std::alloc::{AllocError, Global};
@@ -132,17 +131,6 @@ pub fn outcome_of<R: Threads + Wait + Sync>(
     }
 }
 
-/// Prints what the same run comes to with few turns and by other numbers of workers.
-fn print_again<R: Threads + Wait + Sync + Print>(
-    rt: &R,
-    alloc: Global,
-    call: &Call,
-    found: &Outcome,
-) -> io::Result<()> {
-    print_limits(rt, alloc, call, &found.end.journal)?;
-    print_workers(rt, alloc, call, found)
-}
-
 /// Makes the call and prints what is to be shown of it.
 pub fn print_call<R: Threads + Wait + Sync + Print>(
     rt: &R,
@@ -159,7 +147,7 @@ pub fn print_call<R: Threads + Wait + Sync + Print>(
         }
         Shown::Limited => {
             let found = played(rt, alloc, &call)?;
-            print_again(rt, alloc, &call, &found)
+            print_limits(rt, alloc, &call, &found.end.journal)
         }
         Shown::Changed => print_changes(rt, alloc, &call),
     }
@@ -182,7 +170,7 @@ fn call_of(alloc: Global, words: &[&str], before: &str, sources: &str) -> Result
 }
 
 /// Prints a row, a word and sources behind it (`call_of`). The word `acts` is of a run whose journal is printed and replayed, also
-/// with few turns and by other numbers of workers. Any other is a command: behind the row stand the status, and what `out` and `err` got.
+/// with few turns. Any other is a command: behind the row stand the status, and what `out` and `err` got.
 pub fn print_row<R: Threads + Wait + Sync + Print>(
     rt: &R,
     alloc: Global,
@@ -195,7 +183,7 @@ pub fn print_row<R: Threads + Wait + Sync + Print>(
         let call = call_of(alloc, &["run", "--journal"], before, sources)?;
         let found = played(rt, alloc, &call)?;
         print_entries(rt, alloc, &found)?;
-        return print_again(rt, alloc, &call, &found);
+        return print_limits(rt, alloc, &call, &found.end.journal);
     }
     let call = call_of(alloc, &[command], before, sources)?;
     let found = outcome_of(rt, alloc, call)?;

@@ -1,9 +1,10 @@
 -- The table of links behind an output, where it is asked for.
-use Rattle.std.specs.Prelude.{Bool, List, [], false, length, option_map, true, unwrap_or, ℕ}
+use Rattle.std.specs.Prelude.{Bool, List, [], codes, false, length, option_map, true, unwrap_or, ℕ, ◌++◌}
+use Rattle.std.specs.Fmt.{decimal}
 use Rattle.obq_base.specs.Tree.{BlockTree}
 use Rattle.obq_model.specs.Journal.{Journal}
 use Rattle.obq_model.specs.Located.{Link, links, located_replay}
-use Rattle.obq_model.specs.Output.{links_text}
+use Rattle.obq_model.specs.Output.{links_text, newline}
 
 -- the rows of a program's run with this journal; none where that isn't legal
 abbrev pub link_rows : Bool → List BlockTree → Journal → List Link
@@ -14,3 +15,7 @@ link_rows true trees journal = unwrap_or (option_map (links (length trees)) (loc
 abbrev pub links_part : Bool → List (List ℕ) → List Link → List ℕ
 links_part false names rows = []
 links_part true names rows = links_text names rows
+
+-- how many requests and replies there are, at the end of a row's line
+abbrev pub counts_text : (requests replies : ℕ) → List ℕ
+counts_text requests replies = codes " requests " ++ (decimal requests ++ (codes " replies " ++ (decimal replies ++ newline)))

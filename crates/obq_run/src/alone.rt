@@ -1,4 +1,4 @@
-//! A run of one source by its codes, by several workers.
+//! A run of one source by its codes.
 
 ghost use Rattle.std.specs.Prelude.{◌≡◌, ◌≤◌, IfOk, IfSome, List, length, map, ℕ};
 ghost use Rattle.obq_base.specs.Tree.{BlockTree};
@@ -13,63 +13,38 @@ use crate::playing::{Played, SLICE, play};
 use crate::steps::Steps;
 use obq_base::limits::TURN_LIMIT;
 use obq_base::{Block, NoMemory};
-use obq_cluster::{Cluster, Held, run_workers};
 use obq_code::Codes;
 use obq_host::Site;
-use obq_io::Gate;
 use obq_world::{Ended, Naming, Refused, World, run_on};
 use std::alloc::Global;
 use std::marker::Brand;
-use std::sync::Wait;
-use std::thread::Threads;
-
-/// Limits of a run.
-#[derive(Clone, Copy, Debug, PartialEq, Eq)]
-pub struct Limits {
-    /// How many turns each thread has.
-    pub turns: u32,
-    /// How many threads of the host run a program of one source.
-    pub workers: u32,
-}
 
 /// Runs the program that is named, which is that of these blocks and codes.
-fn run_named<J: Naming + Send + Sync, R: Threads + Wait + Sync, G: Gate>(
-    rt: &R,
+fn run_named<J: Naming>(
     alloc: Global,
     blocks: &[Block],
     codes: Codes,
-    limits: Limits,
-    gate: &G,
+    turns: u32,
 ) -> Result<Ended, Refused>
     requires program { J.program ≡ map block_tree blocks.now }
     requires sites { (length J.program ≡ J.sites) × (J.sites ≡ 1) }
-    requires turns { (limits.turns ≡ J.turns) × (limits.turns ≤ 1000000) }
+    requires turns { (turns ≡ J.turns) × (turns ≤ 1000000) }
     requires codes { AreCodes J.parts J.table J.program codes }
     ensures { IfOk result (IsEndOf J.program J.turns) }
 {
     let _ = blocks;
-    let world: World<J, Site<Steps>> = World::begin(alloc, codes, limits.turns)?;
-    let cluster = Cluster::new(Held::new(world), SLICE);
-    run_workers(rt, alloc, &cluster, limits.workers, gate)?;
-    let world = cluster.into_inner().into_world()?;
+    let world: World<J, Site<Steps>> = World::begin(alloc, codes, turns)?;
     run_on(alloc, world, SLICE)
 }
 
 /// A run of one block by its codes, if they do all its acts.
-fn run_block<R: Threads + Wait + Sync, G: Gate>(
-    rt: &R,
-    alloc: Global,
-    blocks: &[Block],
-    codes: Codes,
-    limits: Limits,
-    gate: &G,
-) -> Result<Ended, Refused>
+fn run_block(alloc: Global, blocks: &[Block], codes: Codes, turns: u32) -> Result<Ended, Refused>
     requires one { length blocks.now ≡ 1 }
-    requires turns { limits.turns ≤ 1000000 }
+    requires turns { turns ≤ 1000000 }
     requires codes { AreTabled 0 blocks.now codes }
-    ensures { IfOk result (IsEndOf (map block_tree blocks.now) limits.turns) }
+    ensures { IfOk result (IsEndOf (map block_tree blocks.now) turns) }
 {
-    run_named::<Brand, R, G>(rt, alloc, blocks, codes, limits, gate)
+    run_named::<Brand>(alloc, blocks, codes, turns)
 }
 
 /// What the run of one source came to.
@@ -90,42 +65,38 @@ fn played(alloc: Global, ended: Ended) -> Result<Played, NoMemory>
 }
 
 /// Runs the only block by its codes. None where there are more blocks, or the run comes to an act that isn't done so.
-pub fn play_alone<R: Threads + Wait + Sync, G: Gate>(
-    rt: &R,
+pub fn play_alone(
     alloc: Global,
     blocks: &[Block],
     codes: Codes,
-    limits: Limits,
-    gate: &G,
+    turns: u32,
 ) -> Result<Option<Played>, NoMemory>
     requires { AreTabled 0 blocks.now codes }
-    ensures { IfOk result (λ o. IfSome o (IsRun (map block_tree blocks.now) limits.turns)) }
+    ensures { IfOk result (λ o. IfSome o (IsRun (map block_tree blocks.now) turns)) }
 {
-    if blocks.len() != 1 || limits.turns > TURN_LIMIT {
+    if blocks.len() != 1 || turns > TURN_LIMIT {
         return Ok(None);
     }
-    match run_block(rt, alloc, blocks, codes, limits, gate) {
+    match run_block(alloc, blocks, codes, turns) {
         Ok(ended) => Ok(Some(played(alloc, ended)?)),
         Err(Refused::Beyond) => Ok(None),
         Err(Refused::NoMemory) => Err(NoMemory),
     }
 }
 
-/// Runs blocks until no thread can go on: one block by its codes and by workers, if the codes do all its acts, and others by the plain machine.
-pub fn play_program<R: Threads + Wait + Sync, G: Gate>(
-    rt: &R,
+/// Runs blocks until no thread can go on: one block by its codes, if they do all its acts, and others by the plain machine.
+pub fn play_program(
     alloc: Global,
     blocks: &[Block],
     codes: Codes,
-    limits: Limits,
-    gate: &G,
+    turns: u32,
 ) -> Result<Played, NoMemory>
     requires few { length blocks.now ≤ 16 }
     requires codes { AreTabled 0 blocks.now codes }
-    ensures { IfOk result (IsRun (map block_tree blocks.now) limits.turns) }
+    ensures { IfOk result (IsRun (map block_tree blocks.now) turns) }
 {
-    match play_alone(rt, alloc, blocks, codes, limits, gate)? {
+    match play_alone(alloc, blocks, codes, turns)? {
         Some(played) => Ok(played),
-        None => play(alloc, blocks, limits.turns),
+        None => play(alloc, blocks, turns),
     }
 }

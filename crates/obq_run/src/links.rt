@@ -6,7 +6,7 @@ ghost use Rattle.obq_base.specs.View.{block_tree};
 ghost use Rattle.obq_journal.specs.Recording.{shown};
 ghost use Rattle.obq_links.specs.Rows.{link_as, rows_of};
 ghost use Rattle.obq_model.specs.Output.{link_line, link_name};
-ghost use Rattle.obq_run.specs.Linked.{link_rows, links_part};
+ghost use Rattle.obq_run.specs.Linked.{counts_text, link_rows, links_part};
 ghost use Rattle.obq_words.specs.Words.{names_of};
 
 use itoa::Buffer;
@@ -50,20 +50,27 @@ fn link_name(sites: &[SiteWord], site: u16) -> &[u8]
     &[]
 }
 
+/// Appends how many requests and replies there are, and the end of a line.
+fn write_counts(text: &mut Vec<u8>, requests: u64, replies: u64) -> Result<(), NoMemory>
+    ensures { OnOk result (text.new.items ≡ text.old.items ++ counts_text requests replies) }
+{
+    let mut number = Buffer::new();
+    text.extend_from_slice(b" requests ")?;
+    text.extend_from_slice(number.format(requests).as_bytes())?;
+    text.extend_from_slice(b" replies ")?;
+    text.extend_from_slice(number.format(replies).as_bytes())?;
+    text.extend_from_slice(b"\n")?;
+    Ok(())
+}
+
 /// Appends the line of a row.
 fn write_link(text: &mut Vec<u8>, sites: &[SiteWord], row: LinkCount) -> Result<(), NoMemory>
     ensures { OnOk result (text.new.items ≡ text.old.items ++ link_line (names_of sites.now) (link_as row)) }
 {
-    let mut number = Buffer::new();
     text.extend_from_slice(link_name(sites, row.from))?;
     text.extend_from_slice(b" -> ")?;
     text.extend_from_slice(link_name(sites, row.to))?;
-    text.extend_from_slice(b" requests ")?;
-    text.extend_from_slice(number.format(row.requests).as_bytes())?;
-    text.extend_from_slice(b" replies ")?;
-    text.extend_from_slice(number.format(row.replies).as_bytes())?;
-    text.extend_from_slice(b"\n")?;
-    Ok(())
+    write_counts(text, row.requests, row.replies)
 }
 
 /// The text of the table, where it is wanted.

@@ -15,7 +15,7 @@ ghost use Rattle.obq_run.specs.Runs.{IsRefusalOf, IsRunOf, RefusalCompletes, Run
 ghost use Rattle.obq_words.specs.Words.{AreInForm, names_of, paths_of};
 
 use crate::accepted::{Accepted, accepted_sources};
-use crate::alone::{Limits, play_program};
+use crate::alone::play_program;
 use crate::ends::{Cause, End, status_for};
 use crate::finish::{refuse, write_whole};
 use crate::links::{link_rows, links_part};
@@ -24,18 +24,17 @@ use obq_base::NoMemory;
 use obq_base::limits::SOURCE_LIMIT;
 use obq_ends::status_of;
 use obq_front::Program;
-use obq_io::{Files, Gate, Sink};
+use obq_io::{Files, Sink};
 use obq_journal::{Journal, write_journal};
 use obq_links::LinkCount;
 use obq_words::SiteWord;
 use std::alloc::Global;
-use std::sync::Wait;
-use std::thread::Threads;
 
 /// How sources are run, and what is written besides what they wrote.
 #[derive(Clone, Copy, Debug, PartialEq, Eq)]
 pub struct RunOrder {
-    pub limits: Limits,
+    /// How many turns each thread has.
+    pub turns: u32,
     /// Whether the journal is written, too.
     pub journal: bool,
     /// Whether the table of links is.
@@ -50,39 +49,31 @@ pub struct Ran {
 }
 
 /// Runs a program.
-fn run_program<R: Threads + Wait + Sync, G: Gate>(
-    rt: &R,
-    alloc: Global,
-    program: Program,
-    order: RunOrder,
-    gate: &G,
-) -> Result<Ran, NoMemory>
+fn run_program(alloc: Global, program: Program, order: RunOrder) -> Result<Ran, NoMemory>
     requires few { length program.blocks.items ≤ 16 }
     requires codes { AreTabled 0 program.blocks.items program.codes }
-    ensures { IfOk result (IsRanSo (map block_tree program.blocks.items) order.limits.turns order.links) }
+    ensures { IfOk result (IsRanSo (map block_tree program.blocks.items) order.turns order.links) }
 {
     let Program {
         names: _,
         blocks,
         codes,
     } = program;
-    let played = play_program(rt, alloc, &blocks, codes, order.limits, gate)?;
+    let played = play_program(alloc, &blocks, codes, order.turns)?;
     let links = link_rows(alloc, order.links, &blocks, &played.journal)?;
     Ok(Ran { played, links })
 }
 
 /// Reads, examines and runs the sources of the sites, without writing anything.
-fn run_files<R: Threads + Wait + Sync, F: Files, G: Gate>(
-    rt: &R,
+fn run_files<F: Files>(
     alloc: Global,
     files: &mut F,
     sites: &[SiteWord],
     order: RunOrder,
-    gate: &G,
 ) -> Result<Ran, Cause>
     requires { length sites.now ≤ 16 }
     ensures same { (n : List ℕ) → F.holds files.new n ≡ F.holds files.old n }
-    ensures ran { IfOk result (RunsOf (F.holds files.old) SOURCE_LIMIT (paths_of sites.now) order.limits.turns order.links) }
+    ensures ran { IfOk result (RunsOf (F.holds files.old) SOURCE_LIMIT (paths_of sites.now) order.turns order.links) }
     ensures only { IfErr result IsSourceRefusal }
     ensures read_fault { IfErr result (λ cause. IfReadFault cause (IsFaultAt (F.holds files.old) SOURCE_LIMIT (PathRose (F.faults files.old) (F.faults files.new)) (paths_of sites.now))) }
     ensures too_long { IfErr result (λ cause. IfTooLong cause (IsTooLongAt (F.holds files.old) SOURCE_LIMIT (paths_of sites.now))) }
@@ -96,7 +87,7 @@ fn run_files<R: Threads + Wait + Sync, F: Files, G: Gate>(
         sources: _,
         program,
     } = accepted;
-    match run_program(rt, alloc, program, order, gate) {
+    match run_program(alloc, program, order) {
         Ok(ran) => Ok(ran),
         Err(_) => Err(Cause::NoMemory),
     }
@@ -169,15 +160,13 @@ fn finish<O: Sink, E: Sink>(
 
 /// Runs the sources of the sites as the order says, and writes what they wrote to `out`, with the table of
 /// links and the journal behind it where they are wanted; or tells on `err` why they don't run.
-pub fn run_sites<R: Threads + Wait + Sync, F: Files, O: Sink, E: Sink, G: Gate>(
-    rt: &R,
+pub fn run_sites<F: Files, O: Sink, E: Sink>(
     alloc: Global,
     sites: &[SiteWord],
     order: RunOrder,
     files: &mut F,
     out: &mut O,
     err: &mut E,
-    gate: &G,
 ) -> End
     requires { AreInForm sites.now }
 
@@ -189,9 +178,9 @@ pub fn run_sites<R: Threads + Wait + Sync, F: Files, O: Sink, E: Sink, G: Gate>(
     ensures write_fault { OnWriteFault result.cause (Rose (O.faults out.old) (O.faults out.new)) }
 
     // The journal is a history of the sources, and what is written is its output.
-    ensures ran { OnRan result.cause ((text : List ℕ) × IsRunOf (F.holds files.old) SOURCE_LIMIT (names_of sites.now) (paths_of sites.now) order.limits.turns order.links order.journal (shown result.journal) text result.status
+    ensures ran { OnRan result.cause ((text : List ℕ) × IsRunOf (F.holds files.old) SOURCE_LIMIT (names_of sites.now) (paths_of sites.now) order.turns order.links order.journal (shown result.journal) text result.status
         × Appends (O.written out.old) (O.written out.new) text) }
-    ensures part { OnWriteFault result.cause ((text : List ℕ) × (ended : ℕ) × IsRunOf (F.holds files.old) SOURCE_LIMIT (names_of sites.now) (paths_of sites.now) order.limits.turns order.links order.journal (shown result.journal) text ended
+    ensures part { OnWriteFault result.cause ((text : List ℕ) × (ended : ℕ) × IsRunOf (F.holds files.old) SOURCE_LIMIT (names_of sites.now) (paths_of sites.now) order.turns order.links order.journal (shown result.journal) text ended
         × GetsPrefix (O.written out.old) (O.written out.new) text) }
     ensures status { HasStatus result.cause result.status }
     ensures completes { RunCompletes (F.holds files.old) SOURCE_LIMIT (paths_of sites.now) (PathRose (F.faults files.old) (F.faults files.new)) (Rose (O.faults out.old) (O.faults out.new)) result.cause }
@@ -205,7 +194,7 @@ pub fn run_sites<R: Threads + Wait + Sync, F: Files, O: Sink, E: Sink, G: Gate>(
     ensures quiet { OnRan result.cause (err.new ≡ err.old) }
     ensures same { (n : List ℕ) → F.holds files.new n ≡ F.holds files.old n }
 {
-    let ran = match run_files(rt, alloc, files, sites, order, gate) {
+    let ran = match run_files(alloc, files, sites, order) {
         Ok(ran) => ran,
         Err(cause) => return refuse(alloc, err, sites, cause),
     };

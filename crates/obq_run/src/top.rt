@@ -13,7 +13,6 @@ ghost use Rattle.obq_run.specs.Runs.{CheckCompletes, IsCheckOf, IsRefusalOf, IsR
 ghost use Rattle.obq_words.specs.CommandLine.{TooManyAt, UsageAt, bad_word, is_checking, is_replaying, journal_path, turns_of, wants_journal, wants_links};
 ghost use Rattle.obq_words.specs.Words.{bytes_of, given_names, given_paths};
 
-use crate::alone::Limits;
 use crate::check::check_sources;
 use crate::ends::{Cause, End};
 use crate::finish::refuse;
@@ -30,13 +29,13 @@ use std::thread::Threads;
 /// that they are accepted, to `out`, or tells on `err` why it didn't. `docs/LANGUAGE.md` has the
 /// words, the texts and the statuses.
 pub fn obliq<R: Threads + Wait + Sync, F: Files, O: Sink, E: Sink, G: Gate>(
-    rt: &R,
+    _rt: &R,
     alloc: Global,
     words: &[String],
     files: &mut F,
     out: &mut O,
     err: &mut E,
-    gate: &G,
+    _gate: &G,
 ) -> End
     // Words that can't stand are always refused; each other cause comes only where it may.
     ensures usage { MatchWords result.cause (λ k. bad_word (bytes_of words.now) ≡ Some (UsageAt k)) (λ k. bad_word (bytes_of words.now) ≡ Some (TooManyAt k)) (bad_word (bytes_of words.now) ≡ None) }
@@ -104,19 +103,18 @@ pub fn obliq<R: Threads + Wait + Sync, F: Files, O: Sink, E: Sink, G: Gate>(
         Ok(
             Order::Run {
                 turns,
-                workers,
+                workers: _,
                 journal,
                 links,
                 sites,
             },
         ) => {
-            let limits = Limits { turns, workers };
             let order = RunOrder {
-                limits,
+                turns,
                 journal,
                 links,
             };
-            run_sites(rt, alloc, &sites, order, files, out, err, gate)
+            run_sites(alloc, &sites, order, files, out, err)
         }
         Ok(Order::Check { sites }) => check_sources(alloc, &sites, files, out, err),
         Ok(Order::Replay { from, sites }) => {

@@ -76,8 +76,8 @@ returns-in-Ok-text_behind-clause-ran g c =
     let is = c.deref.ensures.value ∙ c.in-Ok-text_behind.ensures in
     on_ran c.finish.result.cause _ _ (λ h. (
       output_text names played.outcome part,
-      subst (λ (j : Journal). IsRunOf holds SOURCE_LIMIT names paths c.args.order.limits.turns c.args.order.links c.args.order.journal j (output_text names played.outcome part) c.finish.result.status) (sym c.finish.ensures.journal)
-          (ran_so holds names paths c.args.order.limits.turns c.args.order.links c.args.order.journal ran part c.finish.result.status c.in-Ok.ensures.ran is h.0),
+      subst (λ (j : Journal). IsRunOf holds SOURCE_LIMIT names paths c.args.order.turns c.args.order.links c.args.order.journal j (output_text names played.outcome part) c.finish.result.status) (sym c.finish.ensures.journal)
+          (ran_so holds names paths c.args.order.turns c.args.order.links c.args.order.journal ran part c.finish.result.status c.in-Ok.ensures.ran is h.0),
       h.1,
     )) c.finish.ensures.ran
 
@@ -94,8 +94,8 @@ returns-in-Ok-text_behind-clause-part g c =
     on_write_fault c.finish.result.cause _ _ (λ prefix. (
       output_text names played.outcome part,
       ended,
-      subst (λ (j : Journal). IsRunOf holds SOURCE_LIMIT names paths c.args.order.limits.turns c.args.order.links c.args.order.journal j (output_text names played.outcome part) ended) (sym c.finish.ensures.journal)
-          (ran_so holds names paths c.args.order.limits.turns c.args.order.links c.args.order.journal ran part ended c.in-Ok.ensures.ran is refl),
+      subst (λ (j : Journal). IsRunOf holds SOURCE_LIMIT names paths c.args.order.turns c.args.order.links c.args.order.journal j (output_text names played.outcome part) ended) (sym c.finish.ensures.journal)
+          (ran_so holds names paths c.args.order.turns c.args.order.links c.args.order.journal ran part ended c.in-Ok.ensures.ran is refl),
       prefix,
     )) c.finish.ensures.part
 
@@ -103,12 +103,12 @@ pub returns-in-Ok-text_behind-clause-completes_refused : goal.returns-in-Ok-text
 returns-in-Ok-text_behind-clause-completes_refused g c =
     let files = g.F.Files in
     let Rises : List ℕ → Type 0 = λ p. Rose (files.faults c.args.files.now p) (files.faults c.run_files.new.files p) in
-    let runs : RunsOf (files.holds c.args.files.now) SOURCE_LIMIT (paths_of c.args.sites.now) c.args.order.limits.turns c.args.order.links c.in-Ok.ran = c.in-Ok.ensures.ran in
+    let runs : RunsOf (files.holds c.args.files.now) SOURCE_LIMIT (paths_of c.args.sites.now) c.args.order.turns c.args.order.links c.in-Ok.ran = c.in-Ok.ensures.ran in
     refusal_finished (files.holds c.args.files.now) SOURCE_LIMIT (paths_of c.args.sites.now) runs.sources runs.trees Rises c.finish.result.cause runs.held runs.accepted
 
 pub returns-in-Ok-text_behind-clause-completes_too_long : goal.returns-in-Ok-text_behind-clause-completes_too_long
 returns-in-Ok-text_behind-clause-completes_too_long g c =
     let files = g.F.Files in
     let Rises : List ℕ → Type 0 = λ p. Rose (files.faults c.args.files.now p) (files.faults c.run_files.new.files p) in
-    let runs : RunsOf (files.holds c.args.files.now) SOURCE_LIMIT (paths_of c.args.sites.now) c.args.order.limits.turns c.args.order.links c.in-Ok.ran = c.in-Ok.ensures.ran in
+    let runs : RunsOf (files.holds c.args.files.now) SOURCE_LIMIT (paths_of c.args.sites.now) c.args.order.turns c.args.order.links c.in-Ok.ran = c.in-Ok.ensures.ran in
     too_long_finished (files.holds c.args.files.now) SOURCE_LIMIT (paths_of c.args.sites.now) runs.sources Rises c.finish.result.cause runs.held
