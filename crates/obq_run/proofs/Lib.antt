@@ -8,3 +8,4 @@ pub mod Zipped
 pub mod Coded
 pub mod Pure
 pub mod Ended
+pub mod Linked

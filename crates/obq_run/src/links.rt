@@ -6,7 +6,7 @@ ghost use Rattle.obq_base.specs.View.{block_tree};
 ghost use Rattle.obq_journal.specs.Recording.{shown};
 ghost use Rattle.obq_links.specs.Rows.{link_as, rows_of};
 ghost use Rattle.obq_model.specs.Output.{link_line, link_name};
-ghost use Rattle.obq_run.specs.Linked.{counts_text, link_rows, links_part};
+ghost use Rattle.obq_run.specs.Linked.{counts_text, link_rows, links_part, rows_text};
 ghost use Rattle.obq_words.specs.Words.{names_of};
 
 use itoa::Buffer;
@@ -73,7 +73,18 @@ fn write_link(text: &mut Vec<u8>, sites: &[SiteWord], row: LinkCount) -> Result<
     write_counts(text, row.requests, row.replies)
 }
 
+/// Appends the lines of these rows.
+fn write_rows(text: &mut Vec<u8>, sites: &[SiteWord], rows: &[LinkCount]) -> Result<(), NoMemory>
+    ensures { OnOk result (text.new.items ≡ text.old.items ++ rows_text (names_of sites.now) rows.now) }
+{
+    for row in rows {
+        write_link(text, sites, *row)?;
+    }
+    Ok(())
+}
+
 /// The text of the table, where it is wanted.
+#[tactic(auto, using(crate::proofs::Linked::rows_text_is))]
 pub fn links_part(
     alloc: Global,
     wanted: bool,
@@ -86,8 +97,6 @@ pub fn links_part(
         return Ok(Vec::new(alloc));
     }
     let mut text = Vec::from_slice(alloc, b"== links ==\n")?;
-    for row in rows {
-        write_link(&mut text, sites, *row)?;
-    }
+    write_rows(&mut text, sites, rows)?;
     Ok(text)
 }

@@ -103,12 +103,14 @@ pub fn obliq<R: Threads + Wait + Sync, F: Files, O: Sink, E: Sink, G: Gate>(
         Ok(
             Order::Run {
                 turns,
-                workers: _,
+                workers,
                 journal,
                 links,
                 sites,
             },
         ) => {
+            // One thread of the host runs a program yet.
+            let _ = workers;
             let order = RunOrder {
                 turns,
                 journal,
