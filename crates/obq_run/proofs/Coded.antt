@@ -1,7 +1,7 @@
 -- The codes of accepted sources as a machine has them, under the table that their blocks have.
 use Rattle.std.proofs.lemmas.Bool.Decides.{nat_tests}
 use Rattle.std.specs.Prelude.{Bool, if◌then◌else◌}
-use Rattle.std.proofs.Common.{List, None, Option, Some, [], ap, arith, drop, false, length, map, nat_lt, refl, slice_get, subst, suc, sym, true, zero, ℕ, ◌-◌, ◌∙◌, ◌∷◌, ◌≡◌, ◌≤◌}
+use Rattle.std.proofs.Common.{List, Option, Some, [], ap, arith, drop, false, length, map, nat_lt, refl, slice_get, subst, suc, true, zero, ℕ, ◌-◌, ◌∙◌, ◌∷◌, ◌≡◌, ◌≤◌}
 use Rattle.obq_base.specs.Tree.{BlockTree}
 use Rattle.obq_base.specs.View.{block_tree}
 use Rattle.obq_base.specs.declared.code.CodeNo.{CodeNo}

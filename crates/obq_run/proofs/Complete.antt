@@ -16,7 +16,6 @@ use Rattle.obq_model.proofs.Uniqueness.{no_fault_of_a_reading, one_reading}
 use Rattle.obq_base.specs.Tree.{BlockTree}
 use Rattle.obq_model.specs.Grammar.{Derives}
 use Rattle.obq_model.specs.Occurrences.{IsFirstUnbound, unbound}
-use Rattle.obq_model.specs.Tokens.{IsReading}
 use Rattle.obq_model.specs.Sources.{AreAccepted, IsAccepted, IsFault, IsFirstRefused, here, later}
 use Rattle.obq_model.specs.Config.{Config}
 use Rattle.obq_model.specs.Journal.{Journal}

@@ -1,13 +1,8 @@
 -- A run of one source that is over is what a run of blocks is.
-use Rattle.std.proofs.Common.{List, Some, [], ap, refl, subst, sym, ℕ, ◌∷◌, ◌≡◌, ◌∙◌}
-use Rattle.std.specs.Global.{Vec}
+use Rattle.std.proofs.Common.{List, [], ap, sym, ℕ, ◌∷◌, ◌≡◌, ◌∙◌}
 use Rattle.obq_base.specs.Tree.{BlockTree}
-use Rattle.obq_base.specs.declared.acts.Report.{Report}
-use Rattle.obq_journal.specs.Recording.{shown}
-use Rattle.obq_model.specs.Config.{Config}
-use Rattle.obq_model.specs.Replay.{IsOver, replay, report}
-use Rattle.obq_run.specs.Played.{IsPlayed, IsRun, texts_of}
-use Rattle.obq_run.specs.declared.outcome.Outcome.{Outcome}
+use Rattle.obq_model.specs.Replay.{report}
+use Rattle.obq_run.specs.Played.{IsRun, texts_of}
 use Rattle.obq_run.specs.declared.playing.Played.{Played}
 use Rattle.obq_world.specs.Ends.{IsEndOf}
 use Rattle.obq_world.specs.declared.running.Ended.{Ended}

@@ -1,5 +1,5 @@
 -- What a run came to, and its output.
-use Rattle.std.proofs.Common.{List, Some, [], ap, append_assoc, length, subst, sym, ℕ, ◌++◌, ◌≡◌, ◌∙◌}
+use Rattle.std.proofs.Common.{List, Some, [], ap, append_assoc, length, sym, ℕ, ◌++◌, ◌≡◌, ◌∙◌}
 use Rattle.std.proofs.lemmas.List.{append-nil}
 use Rattle.std.specs.List.{zip}
 use Rattle.std.specs.Prelude.{OnOk, Err, Ok, Result}

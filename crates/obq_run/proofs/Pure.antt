@@ -1,5 +1,5 @@
 -- The pure machine's laws are what a site asks of pure steps.
-use Rattle.std.specs.Prelude.{List, Some, [], ℕ, ◌≡◌}
+use Rattle.std.specs.Prelude.{List, [], ℕ, ◌≡◌}
 use Rattle.std.proofs.Common.{subst, sym}
 use Rattle.obq_base.specs.declared.code.CodeNo.{CodeNo}
 use Rattle.obq_base.specs.declared.code.SourceCode.{SourceCode}

@@ -1,5 +1,5 @@
 -- Why a journal wasn't read, or not replayed.
-use Rattle.std.proofs.Common.{List, None, Option, Some, [], ap, arith, length, refl, slice_get, subst, suc, sym, take, zero, ℕ, ◌++◌, ◌<◌, ◌≡◌, ◌≤◌, ◌∙◌, ◌∷◌}
+use Rattle.std.proofs.Common.{List, None, Option, Some, [], ap, arith, length, refl, slice_get, subst, suc, sym, take, zero, ℕ, ◌++◌, ◌<◌, ◌≡◌, ◌≤◌, ◌∷◌}
 use Rattle.std.specs.Prelude.{Err, IfErr, IfOk, IsSomeAnd, Ok, Result}
 use Rattle.obq_base.specs.declared.limits.TheConstants.{JOURNAL_LIMIT, SOURCE_LIMIT}
 use Rattle.obq_base.specs.declared.trees.Block.{Block}

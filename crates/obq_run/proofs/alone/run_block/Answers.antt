@@ -1,6 +1,3 @@
-use Rattle.std.proofs.Common.{◌∙◌}
-use Rattle.std.proofs.lemmas.List.{length-map}
-use Rattle.obq_base.specs.View.{block_tree}
 use Rattle.obq_run.proofs.Coded.{are_codes}
 use Rattle.obq_run.proofs.alone.run_block.Goals as goal
 

@@ -1,10 +1,8 @@
-use Rattle.std.proofs.Common.{List, ap, length, rules, subst, sym, ℕ, ◌≡◌, ◌∙◌}
+use Rattle.std.proofs.Common.{List, length, subst, sym, ℕ, ◌≡◌}
 use Rattle.std.proofs.lemmas.List.{length-map}
 use Rattle.std.specs.String.{string_bytes}
 use Rattle.obq_base.specs.declared.limits.TheConstants.{SOURCE_LIMIT}
 use Rattle.obq_front.specs.Contents.{contents}
-use Rattle.obq_io.specs.Causes.{Rose}
-use Rattle.obq_run.specs.Ends.{unread_journal_cause}
 use Rattle.obq_run.specs.Held.{PathRose}
 use Rattle.obq_run.specs.Runs.{ReplayRefusal}
 use Rattle.obq_words.specs.Words.{paths_of}

@@ -1,8 +1,5 @@
 use Rattle.std.proofs.Common.{List, Option, [], refl, subst, sym, ℕ, ◌≡◌}
-use Rattle.std.specs.Io.KnownBytes.{Appends}
-use Rattle.obq_base.specs.Tree.{BlockTree}
 use Rattle.obq_io.specs.Causes.{Rose}
-use Rattle.obq_io.specs.Known.{GetsPrefix}
 use Rattle.obq_journal.specs.Recording.{shown}
 use Rattle.obq_model.specs.Journal.{Journal}
 use Rattle.obq_model.specs.Replay.{status}

@@ -1,4 +1,4 @@
-use Rattle.std.proofs.Common.{List, None, Ok, Some, ap, length, map, subst, sym, ◌≡◌, ◌∙◌}
+use Rattle.std.proofs.Common.{List, None, Some, ap, map, subst, sym, ◌≡◌, ◌∙◌}
 use Rattle.std.proofs.lemmas.List.{length-map}
 use Rattle.obq_base.specs.Tree.{BlockTree}
 use Rattle.obq_base.specs.View.{block_tree}

@@ -1,10 +1,8 @@
-use Rattle.std.proofs.Common.{List, ap, arith, length, map, subst, sym, ℕ, ◌≡◌, ◌≤◌, ◌∙◌}
+use Rattle.std.proofs.Common.{List, arith, length, ◌≡◌, ◌≤◌}
 use Rattle.std.proofs.lemmas.List.{length-map}
-use Rattle.obq_base.specs.View.{block_tree}
 use Rattle.obq_base.specs.declared.limits.TheConstants.{SOURCE_LIMIT}
 use Rattle.obq_base.specs.declared.trees.Block.{Block}
-use Rattle.obq_front.specs.Contents.{AreTabled, contents}
-use Rattle.obq_run.specs.Played.{IsRun}
+use Rattle.obq_front.specs.Contents.{contents}
 use Rattle.obq_run.proofs.Held.{as_many}
 use Rattle.obq_run.proofs.Replayed.{trees_as_many}
 use Rattle.obq_run.proofs.run.run_files.Goals as goal

@@ -1,14 +1,12 @@
-use Rattle.std.proofs.Common.{Bool, List, Option, [], ap, refl, subst, sym, ℕ, ◌++◌, ◌≡◌, ◌∙◌}
-use Rattle.std.specs.Io.KnownBytes.{Appends}
+use Rattle.std.proofs.Common.{Bool, List, Option, ap, refl, subst, sym, ℕ, ◌++◌, ◌≡◌, ◌∙◌}
 use Rattle.std.specs.List.{zip}
 use Rattle.obq_base.specs.declared.limits.TheConstants.{SOURCE_LIMIT}
 use Rattle.obq_io.specs.Causes.{Rose}
-use Rattle.obq_io.specs.Known.{GetsPrefix}
 use Rattle.obq_journal.specs.Recording.{shown}
 use Rattle.obq_model.specs.Journal.{Journal}
 use Rattle.obq_model.specs.Output.{run_text}
-use Rattle.obq_model.specs.Replay.{TakeTurns, status}
-use Rattle.obq_run.specs.Ends.{GetsLine, IsRanOrNoMemory, line_of}
+use Rattle.obq_model.specs.Replay.{status}
+use Rattle.obq_run.specs.Ends.{IsRanOrNoMemory}
 use Rattle.obq_run.specs.Linked.{links_part}
 use Rattle.obq_run.specs.Played.{RunsOf, behind_threads, output_text, texts_of}
 use Rattle.obq_run.specs.Runs.{IsRunOf, RefusalCompletes, RunCompletes, TooLongCompletes, journal_part}

@@ -1,10 +1,9 @@
-use Rattle.std.proofs.Common.{List, Some, ap, arith, drop, get_or, length, slice_get, subst, suc, sym, take, ℕ, ◌+◌, ◌++◌, ◌<◌, ◌≡◌, ◌≤◌, ◌∙◌}
+use Rattle.std.proofs.Common.{List, Some, ap, arith, drop, get_or, length, slice_get, subst, suc, sym, take, ℕ, ◌+◌, ◌<◌, ◌≡◌, ◌≤◌, ◌∙◌}
 use Rattle.std.specs.Io.KnownBytes.{Appends}
 use Rattle.std.specs.List.{zip}
 use Rattle.std.specs.Option.{option_map}
 use Rattle.std.proofs.lemmas.List.{length-map}
 use Rattle.std.proofs.lemmas.Option.{slice_get-get_or, slice_get-map}
-use Rattle.obq_io.specs.Known.{GetsPrefix}
 use Rattle.obq_io.proofs.Told.{appends_more, prefix_behind}
 use Rattle.obq_model.specs.Output.{site_text}
 use Rattle.obq_run.specs.Played.{sites_text, texts_of}
